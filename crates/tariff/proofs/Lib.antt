@@ -1,0 +1,13 @@
+pub mod HalfUp
+pub mod Products
+pub mod EnergySize
+pub mod Quoted
+pub mod SameTables
+pub mod Places
+pub mod SheetLimits
+pub mod AverageSize
+pub mod Claims
+pub mod Counts
+pub mod Ranks
+pub mod Running
+pub mod Largest

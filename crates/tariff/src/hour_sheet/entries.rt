@@ -1,0 +1,103 @@
+// The entries that fill an hour sheet.
+ghost use Prim.Native.Nat.{_≤_};
+ghost use lib.IntN.{natAbs};
+ghost use mathlib.Core.Bool.{true};
+ghost use mathlib.Core.Path.{_≡_};
+ghost use Rattle.std.specs.declared.option.Option.the-variants.{None};
+ghost use Rattle.tariff.specs.Answers.{told, if-granted};
+ghost use Rattle.tariff.specs.HourSheets.{dayOf, tablesOf};
+ghost use Rattle.tariff.specs.Sheets.{dayAnswer, hourSheetAnswer, opened, filled, priceWithin, factorKept};
+ghost use Rattle.tariff.specs.Tables.{Priced, Factored};
+use crate::hour_sheet::HourSheet;
+use crate::hour_sheet::hours::fill;
+use crate::hour_sheet::limits::check_factor;
+use crate::hour_sheet::limits::check_hours;
+use crate::hour_sheet::limits::check_price;
+use crate::refusal::Refusal;
+
+impl HourSheet {
+    // A sheet with a day's day-ahead prices, on which no hour has a figure.
+    fn of_day(day: u64, heavy: Option<i64>, light: Option<i64>) -> HourSheet
+        requires heavy { ⌜ priceWithin heavy ≡ true ⌝ }
+        requires light { ⌜ priceWithin light ≡ true ⌝ }
+        ensures day { λ r. ⌜ dayOf r ≡ day ⌝ }
+        ensures tables { λ r. ⌜ tablesOf r ≡ opened day heavy light ⌝ }
+    {
+        HourSheet {
+            day,
+            heavy,
+            light,
+            real_time: [None; 24],
+            factors: [None; 24],
+        }
+    }
+
+    // A sheet for day 1 on which every figure is missing.
+    pub fn new() -> HourSheet
+        ensures day { λ r. ⌜ dayOf r ≡ 1 ⌝ }
+        ensures tables { λ r. ⌜ tablesOf r ≡ opened 1 None None ⌝ }
+    {
+        HourSheet::of_day(1, None, None)
+    }
+
+    // Turns to a day with its day-ahead prices, and clears the hours.
+    pub fn enter_day(
+        &mut self,
+        day: i64,
+        heavy: Option<i64>,
+        light: Option<i64>,
+    ) -> Result<(), Refusal>
+        ensures answer { λ r. ⌜ told r ≡ dayAnswer day heavy light ⌝ }
+        ensures day { λ r. ⌜ dayOf (now (self .exit)) ≡ if-granted (told r) (natAbs day) (dayOf (now (self .entry))) ⌝ }
+        ensures tables { λ r. ⌜ tablesOf (now (self .exit)) ≡ if-granted (told r) (opened (natAbs day) heavy light) (tablesOf (now (self .entry))) ⌝ }
+    {
+        if day < 1 || day > 4000 {
+            return Err(Refusal::Day { position: 1 });
+        }
+        check_price(heavy, 2)?;
+        check_price(light, 3)?;
+        *self = HourSheet::of_day(day as u64, heavy, light);
+        Ok(())
+    }
+
+    // Writes accepted figures into the hours from first to last of the sheet's day.
+    pub(crate) fn fill_hours(
+        &mut self,
+        first: u64,
+        last: u64,
+        real_time: Option<i64>,
+        factor: Option<u64>,
+    )
+        requires low { ⌜ 1 ≤ first ⌝ }
+        requires order { ⌜ first ≤ last ⌝ }
+        requires high { ⌜ last ≤ 24 ⌝ }
+        requires price { ⌜ Priced «real_time» ⌝ }
+        requires factor { ⌜ Factored factor ⌝ }
+        ensures day { λ _. ⌜ dayOf (now (self .exit)) ≡ dayOf (now (self .entry)) ⌝ }
+        ensures tables { λ _. ⌜ tablesOf (now (self .exit)) ≡ filled (dayOf (now (self .entry))) first last «real_time» factor (tablesOf (now (self .entry))) ⌝ }
+    {
+        let from = first as usize - 1;
+        let to = last as usize;
+        fill(&mut self.real_time, from, to, real_time);
+        fill(&mut self.factors, from, to, factor);
+    }
+
+    // Fills the hours from first to last of the sheet's day.
+    pub fn enter_hours(
+        &mut self,
+        first: i64,
+        last: i64,
+        real_time: Option<i64>,
+        factor: Option<i64>,
+    ) -> Result<(), Refusal>
+        ensures answer { λ r. ⌜ told r ≡ hourSheetAnswer first last «real_time» factor ⌝ }
+        ensures day { λ _. ⌜ dayOf (now (self .exit)) ≡ dayOf (now (self .entry)) ⌝ }
+        ensures tables { λ r. ⌜ tablesOf (now (self .exit)) ≡ if-granted (told r) (filled (dayOf (now (self .entry))) (natAbs first) (natAbs last) «real_time» (factorKept factor) (tablesOf (now (self .entry)))) (tablesOf (now (self .entry))) ⌝ }
+    {
+        let (first, last) = check_hours(first, last)?;
+        check_price(real_time, 3)?;
+        let factor = check_factor(factor, 4)?;
+        self.fill_hours(first, last, real_time, factor);
+        Ok(())
+    }
+}
