@@ -2,7 +2,7 @@ pub mod HalfUp
 pub mod Products
 pub mod EnergySize
 pub mod Quoted
-pub mod SameTables
+pub mod SameSheets
 pub mod Places
 pub mod SheetLimits
 pub mod AverageSize

@@ -47,10 +47,11 @@ pub no-hour : {A : Type 0} (day d hour : ℕ) → cond (eqb d day) (atHour {A = 
 no-hour {A} day d hour = let e = none-at {A = A} 24 (hour - 1) in grind (arith, tells)
 
 -- a row filled from the first hour to the last, as a table of days and hours
-pub at-filled : {A : Type 0} (old new : List (Option A)) (value : Option A) (first last : ℕ) → 1 ≤ first → last ≤ 24
+pub at-filled : {A : Type 0} (first last : ℕ) → 1 ≤ first → last ≤ 24 → (old new : List (Option A)) (value : Option A)
     → ((k : ℕ) → getD new k None ≡ cond (leb (first - 1) k && ltb k last) value (getD old k None))
-    → (day d hour : ℕ) → cond (eqb d day) (atHour new hour) None ≡ cond (among day first last d hour) value (cond (eqb d day) (atHour old hour) None)
-at-filled old new value first last low high each day d hour = let e = each (hour - 1) in grind (arith, tells)
+    → (day d hour : ℕ)
+    → cond (eqb d day) (atHour new hour) None ≡ cond (among day first last d hour) value (cond (eqb d day) (atHour old hour) None)
+at-filled first last low high old new value each day d hour = let e = each (hour - 1) in grind (arith, tells)
 
 -- what holds of a value and of every place holds of every place of a row that is filled with the value
 pub each-filled : {A : Type 0} (P : Option A → Type 0) (old new : List (Option A)) (value : Option A) (test : ℕ → Bool) → P value

@@ -19,7 +19,10 @@ use Rattle.tariff.specs.declared.prices.HourPrices.{HourPrices}
 use Rattle.tariff.specs.declared.prices.Terms.{Terms}
 use Rattle.tariff.specs.declared.refusal.Refusal.{Refusal}
 
-module _ (terms : Terms) (tables : Tables) (kind : DayKind) (day hour : ℕ) (block : Block) (dayAhead realTime : ℤ) (factor : ℕ) (limited : Limited tables) (named : granted ≡ blockAnswer hour) (same : block ≡ blockOf kind hour) (first : Some dayAhead ≡ tables .dayAhead day block) (second : Some realTime ≡ tables .realTime day hour) (third : Some factor ≡ tables .factor day hour) where
+module _ (terms : Terms) (tables : Tables) (kind : DayKind) (day hour : ℕ) (block : Block) (dayAhead realTime : ℤ) (factor : ℕ)
+    (limited : Limited tables) (named : granted ≡ blockAnswer hour) (same : block ≡ blockOf kind hour)
+    (first : Some dayAhead ≡ tables .dayAhead day block) (second : Some realTime ≡ tables .realTime day hour)
+    (third : Some factor ≡ tables .factor day hour) where
   -- none of the figures is missing
   found : tables .dayAhead day (blockOf kind hour) ≡ Some dayAhead
   found = ap (tables .dayAhead day) (sym same) ∙ sym first
@@ -38,5 +41,7 @@ module _ (terms : Terms) (tables : Tables) (kind : DayKind) (day hour : ℕ) (bl
   value : quotedPrices terms tables kind day hour ≡ hourPrices terms dayAhead realTime factor
   value = rw (found, sym second, sym third)
 
-  pub quoted : (r : Result HourPrices Refusal) → Gives (pricesAnswer dayAhead realTime factor) (hourPrices terms dayAhead realTime factor) r → Gives (quoteAnswer tables kind day hour) (quotedPrices terms tables kind day hour) r
+  pub quoted : (r : Result HourPrices Refusal)
+      → Gives (pricesAnswer dayAhead realTime factor) (hourPrices terms dayAhead realTime factor) r
+      → Gives (quoteAnswer tables kind day hour) (quotedPrices terms tables kind day hour) r
   quoted r gives = rw (answered, value) (rw priced at gives)

@@ -36,6 +36,10 @@ abbrev pub if-granted : {A : Type 0} → Answer → A → A → A
 if-granted granted new old = new
 if-granted (denied number first second) new old = old
 
+-- the same, where the new comes from the old
+abbrev pub after : {A : Type 0} → Answer → (A → A) → A → A
+after answer change old = if-granted answer (change old) old
+
 -- a call that answers so, and gives that value where it is granted
 abbrev pub Gives : {A : Type 0} → Answer → A → Result A Refusal → Type 0
 Gives answer value r = (told r ≡ answer) × made r (λ x. x ≡ value)

@@ -52,18 +52,22 @@ pub record Lawful (total : ℕ) (claims shares : List ℕ) : Type 0 where
 abbrev pub LawfulRule : ℕ → Division → Type 0
 LawfulRule most division = (total : ℕ) (claims : List ℕ) → Accepted most total claims → Lawful total claims (division total claims)
 
--- how a rule moves its meaning where it never does
-abbrev pub Unmoved : Division → ℕ → List ℕ → Division → Type 0
+-- how a rule moves its meaning: from what it was, by a division of a total among claims, to what it may become
+abbrev pub Moves : Type 1
+Moves = Division → ℕ → List ℕ → Division → Type 0
+
+-- the meaning of a rule that never moves it
+abbrev pub Unmoved : Moves
 Unmoved before total claims after = after ≡ before
 
 -- the meaning after a call: moved as the rule states where it is granted, else as it was
-abbrev pub Moved : (Division → ℕ → List ℕ → Division → Type 0) → Answer → Division → ℕ → List ℕ → Division → Type 0
+abbrev pub Moved : Moves → Answer → Division → ℕ → List ℕ → Division → Type 0
 Moved moves granted before total claims after = moves before total claims after
 Moved moves (denied number first second) before total claims after = after ≡ before
 
 -- One call of a rule that takes `most` claims above 0 and moves its meaning by `moves`: the meaning and the list of
 -- shares before it, its answer to a total and claims, the list of shares and the meaning after it.
-pub record Divided (most : ℕ) (moves : Division → ℕ → List ℕ → Division → Type 0) (before : Division) (total : ℕ) (claims old : List ℕ) (answer : Answer) (new : List ℕ) (after : Division) : Type 0 where
+pub record Divided (most : ℕ) (moves : Moves) (before : Division) (total : ℕ) (claims old : List ℕ) (answer : Answer) (new : List ℕ) (after : Division) : Type 0 where
   pub answers : answer ≡ divisionAnswer most total claims (length old)
   pub shares : new ≡ if-granted answer (before total claims) old
   pub moved : Moved moves answer before total claims after

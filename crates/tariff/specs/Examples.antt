@@ -2,8 +2,10 @@
 use lib.IntN.{ℤ, pos, negℤ}
 use mathlib.Core.List.{[], _∷_}
 use mathlib.Core.Path.{_≡_}
+use Rattle.std.specs.declared.option.Option.the-variants.{Some}
 use Rattle.tariff.specs.LargestRemainder.{largest}
 use Rattle.tariff.specs.Prices.{initialTerms, totalPrice, hourPrices}
+use Rattle.tariff.specs.Quarters.{averageOf}
 use Rattle.tariff.specs.RunningTotal.{running}
 use Rattle.tariff.specs.declared.prices.HourPrices.{HourPrices}
 
@@ -21,6 +23,9 @@ pub record Examples : Type 0 where
   pub at-cap : totalPrice initialTerms (pos 100000) 18182 ≡ pos 200000
   -- 5.5 cents go up
   pub half-up : totalPrice initialTerms (pos 5) 10000 ≡ pos 6
+  -- quarter-hour results that come to 1.75 and to −1.5 cents
+  pub quarters : averageOf (Some (pos 1) ∷ Some (pos 2) ∷ Some (pos 2) ∷ Some (pos 2) ∷ []) ≡ Some (pos 2)
+  pub quarters-below : averageOf (Some (negℤ (pos 1)) ∷ Some (negℤ (pos 2)) ∷ Some (negℤ (pos 2)) ∷ Some (negℤ (pos 1)) ∷ []) ≡ Some (negℤ (pos 1))
   -- claims 30 and 20 on 7 units: both rules agree
   pub seven-by-largest : largest 7 (30 ∷ 20 ∷ []) ≡ 4 ∷ 3 ∷ []
   pub seven-by-running : running 7 (30 ∷ 20 ∷ []) ≡ 4 ∷ 3 ∷ []

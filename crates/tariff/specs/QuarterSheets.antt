@@ -1,11 +1,20 @@
--- The day and the tables of a quarter sheet: those of the hours that its quarters come to. Assumes nothing.
-use Prim.Native.Nat.{ℕ}
+-- What a quarter sheet holds: the hours that its quarters come to. Assumes nothing.
+use lib.IntN.{ℤ}
+use mathlib.Core.List.{List}
+use Rattle.std.specs.declared.option.Option.{Option}
 use Rattle.tariff.specs.HourSheets as hourly
+use Rattle.tariff.specs.Quarters.{averageOf}
+use Rattle.tariff.specs.Sheets.{Sheet, hoursEntered}
 use Rattle.tariff.specs.Tables.{Tables}
 use Rattle.tariff.specs.declared.quarter_sheet.QuarterSheet.{QuarterSheet}
 
-abbrev pub dayOf : QuarterSheet → ℕ
-dayOf sheet = hourly.dayOf (sheet .hours)
+abbrev pub sheetOf : QuarterSheet → Sheet
+sheetOf sheet = hourly.sheetOf (sheet .hours)
 
+-- what it means as a source of prices
 abbrev pub tablesOf : QuarterSheet → Tables
-tablesOf sheet = hourly.tablesOf (sheet .hours)
+tablesOf sheet = sheetOf sheet .tables
+
+-- an hour's real-time price is the average of its four quarter-hour prices
+abbrev pub quartersEntered : ℤ → ℤ → List (Option ℤ) → Option ℤ → Sheet → Sheet
+quartersEntered first last quarters factor = hoursEntered first last (averageOf quarters) factor

@@ -12,4 +12,5 @@ nearest n d = divEuclid (n +ℤ n +ℤ d) (d +ℤ d)
 -- So no whole number lies nearer, and a half goes up, of negative figures too.
 abbrev pub RoundsHalfUp : Type 0
 RoundsHalfUp =
-    (n : ℤ) (d : ℕ) → 0 < d → ((nearest n (pos d) *ℤ pos (d + d)) ≤ℤ (n +ℤ n +ℤ pos d)) × ((n +ℤ n +ℤ pos d) <ℤ ((nearest n (pos d) +ℤ pos 1) *ℤ pos (d + d)))
+    (n : ℤ) (d : ℕ) → 0 < d →
+    ((nearest n (pos d) *ℤ pos (d + d)) ≤ℤ (n +ℤ n +ℤ pos d)) × ((n +ℤ n +ℤ pos d) <ℤ ((nearest n (pos d) +ℤ pos 1) *ℤ pos (d + d)))

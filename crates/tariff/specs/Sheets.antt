@@ -52,28 +52,46 @@ hourSheetAnswer first last price factor =
     then require (priceWithin price) (Figure 3)
     then require (factorWithin factor) (Figure 4)
 
+-- a sheet is for one day; its tables are missing on every other
+pub record Sheet : Type 0 where
+  pub day : ℕ
+  pub tables : Tables
+
 abbrev pub blockPrice : Option ℤ → Option ℤ → Block → Option ℤ
 blockPrice heavy light Heavy = heavy
 blockPrice heavy light Light = light
 
--- the tables of a sheet on which one day's day-ahead prices stand, and no hour's figures; other days are missing
-abbrev pub opened : ℕ → Option ℤ → Option ℤ → Tables
+-- a sheet on which a day's day-ahead prices stand, and no figure of an hour
+abbrev pub opened : ℕ → Option ℤ → Option ℤ → Sheet
 opened day heavy light =
     record {
-      dayAhead = λ d block. cond (eqb d day) (blockPrice heavy light block) None;
-      realTime = λ d hour. None;
-      factor = λ d hour. None;
+      day = day;
+      tables = record {
+        dayAhead = λ d block. cond (eqb d day) (blockPrice heavy light block) None;
+        realTime = λ d hour. None;
+        factor = λ d hour. None;
+      };
     }
 
 -- whether an hour is one of a day's from first to last
 abbrev pub among : ℕ → ℕ → ℕ → ℕ → ℕ → Bool
 among day first last d hour = eqb d day && (leb first hour && leb hour last)
 
--- the tables after the hours from first to last of a day got a real-time price and a factor
-abbrev pub filled : ℕ → ℕ → ℕ → Option ℤ → Option ℕ → Tables → Tables
-filled day first last price factor tables =
+-- the sheet after the hours from first to last of its day got a real-time price and a factor
+abbrev pub filled : ℕ → ℕ → Option ℤ → Option ℕ → Sheet → Sheet
+filled first last price factor sheet =
     record {
-      dayAhead = tables .dayAhead;
-      realTime = λ d hour. cond (among day first last d hour) price (tables .realTime d hour);
-      factor = λ d hour. cond (among day first last d hour) factor (tables .factor d hour);
+      day = sheet .day;
+      tables = record {
+        dayAhead = sheet .tables .dayAhead;
+        realTime = λ d hour. cond (among (sheet .day) first last d hour) price (sheet .tables .realTime d hour);
+        factor = λ d hour. cond (among (sheet .day) first last d hour) factor (sheet .tables .factor d hour);
+      };
     }
+
+-- what accepted entries make of a sheet
+abbrev pub dayEntered : ℤ → Option ℤ → Option ℤ → Sheet → Sheet
+dayEntered day heavy light sheet = opened (natAbs day) heavy light
+
+abbrev pub hoursEntered : ℤ → ℤ → Option ℤ → Option ℤ → Sheet → Sheet
+hoursEntered first last price factor = filled (natAbs first) (natAbs last) price (factorKept factor)

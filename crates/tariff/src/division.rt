@@ -31,5 +31,6 @@ pub trait DivisionRule {
 
     // Writes the shares of `total` among `claims`, or refuses and alters neither the rule nor the shares.
     fn divide(&mut self, total: u64, claims: &[u64], shares: &mut [u64]) -> Result<(), Refusal>
-        ensures { λ r. ⌜ Divided most moves (meaning (now (self .entry))) total (now (claims .entry)) (now (shares .entry)) (told r) (now (shares .exit)) (meaning (now (self .exit))) ⌝ };
+        ensures { λ r. ⌜ Divided most moves (meaning (now (self .entry))) total (now (claims .entry)) (now (shares .entry))
+            (told r) (now (shares .exit)) (meaning (now (self .exit))) ⌝ };
 }

@@ -4,11 +4,11 @@ ghost use lib.IntN.{natAbs, pos, _+ℤ_};
 ghost use mathlib.Core.Bool.{true};
 ghost use mathlib.Core.Path.{_≡_};
 ghost use Rattle.std.specs.declared.option.Option.the-variants.{None};
-ghost use Rattle.tariff.specs.Answers.{told, if-granted};
-ghost use Rattle.tariff.specs.QuarterSheets.{dayOf, tablesOf};
+ghost use Rattle.tariff.specs.Answers.{told, after};
+ghost use Rattle.tariff.specs.QuarterSheets.{sheetOf, tablesOf, quartersEntered};
 ghost use Rattle.tariff.specs.Quarters.{averageOf, quarter, quarterSheetAnswer};
 ghost use Rattle.tariff.specs.Rounding.{nearest};
-ghost use Rattle.tariff.specs.Sheets.{dayAnswer, opened, filled, priceWithin, factorKept};
+ghost use Rattle.tariff.specs.Sheets.{dayAnswer, opened, dayEntered, priceWithin};
 ghost use Rattle.tariff.specs.Tables.{Priced};
 use crate::blocks::Block;
 use crate::hour_sheet::HourSheet;
@@ -64,8 +64,7 @@ fn average(quarters: &[Option<i64>]) -> Option<i64>
 impl QuarterSheet {
     // A sheet for day 1 on which every figure is missing.
     pub fn new() -> QuarterSheet
-        ensures day { λ r. ⌜ dayOf r ≡ 1 ⌝ }
-        ensures tables { λ r. ⌜ tablesOf r ≡ opened 1 None None ⌝ }
+        ensures { λ r. ⌜ sheetOf r ≡ opened 1 None None ⌝ }
     {
         QuarterSheet {
             hours: HourSheet::new(),
@@ -80,8 +79,7 @@ impl QuarterSheet {
         light: Option<i64>,
     ) -> Result<(), Refusal>
         ensures answer { λ r. ⌜ told r ≡ dayAnswer day heavy light ⌝ }
-        ensures day { λ r. ⌜ dayOf (now (self .exit)) ≡ if-granted (told r) (natAbs day) (dayOf (now (self .entry))) ⌝ }
-        ensures tables { λ r. ⌜ tablesOf (now (self .exit)) ≡ if-granted (told r) (opened (natAbs day) heavy light) (tablesOf (now (self .entry))) ⌝ }
+        ensures sheet { λ r. ⌜ sheetOf (now (self .exit)) ≡ after (told r) (dayEntered day heavy light) (sheetOf (now (self .entry))) ⌝ }
     {
         self.hours.enter_day(day, heavy, light)
     }
@@ -95,8 +93,8 @@ impl QuarterSheet {
         factor: Option<i64>,
     ) -> Result<(), Refusal>
         ensures answer { λ r. ⌜ told r ≡ quarterSheetAnswer first last (now (quarters .entry)) factor ⌝ }
-        ensures day { λ _. ⌜ dayOf (now (self .exit)) ≡ dayOf (now (self .entry)) ⌝ }
-        ensures tables { λ r. ⌜ tablesOf (now (self .exit)) ≡ if-granted (told r) (filled (dayOf (now (self .entry))) (natAbs first) (natAbs last) (averageOf (now (quarters .entry))) (factorKept factor) (tablesOf (now (self .entry)))) (tablesOf (now (self .entry))) ⌝ }
+        ensures sheet { λ r. ⌜ sheetOf (now (self .exit))
+            ≡ after (told r) (quartersEntered first last (now (quarters .entry)) factor) (sheetOf (now (self .entry))) ⌝ }
     {
         let (first, last) = check_hours(first, last)?;
         check_price(quarters[0], 3)?;

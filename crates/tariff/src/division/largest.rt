@@ -42,8 +42,10 @@ fn whole_parts(total: u64, claims: &[u64], shares: &mut [u64], remainders: &mut 
     requires accepted { ⌜ Accepted 12 total (now claims) ⌝ }
     requires places { ⌜ length (now shares) ≡ length (now claims) ⌝ }
     requires room { ⌜ length (now remainders) ≡ length (now claims) ⌝ }
-    ensures wholes { λ _. ⌜ ((k : ℕ) → k < length (now (claims .entry)) → getD (now (shares .exit)) k 0 ≡ wholePart total (now (claims .entry)) k) ⌝ }
-    ensures rests { λ _. ⌜ ((k : ℕ) → k < length (now (claims .entry)) → getD (now (remainders .exit)) k 0 ≡ remainder total (now (claims .entry)) k) ⌝ }
+    ensures wholes { λ _. ⌜ ((k : ℕ) → k < length (now (claims .entry))
+        → getD (now (shares .exit)) k 0 ≡ wholePart total (now (claims .entry)) k) ⌝ }
+    ensures rests { λ _. ⌜ ((k : ℕ) → k < length (now (claims .entry))
+        → getD (now (remainders .exit)) k 0 ≡ remainder total (now (claims .entry)) k) ⌝ }
     ensures left { λ r. ⌜ r ≡ unitsLeft total (now (claims .entry)) ⌝ }
 {
     let all = divisor(claims);

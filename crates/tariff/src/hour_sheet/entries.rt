@@ -1,12 +1,11 @@
 // The entries that fill an hour sheet.
 ghost use Prim.Native.Nat.{_≤_};
-ghost use lib.IntN.{natAbs};
 ghost use mathlib.Core.Bool.{true};
 ghost use mathlib.Core.Path.{_≡_};
 ghost use Rattle.std.specs.declared.option.Option.the-variants.{None};
-ghost use Rattle.tariff.specs.Answers.{told, if-granted};
-ghost use Rattle.tariff.specs.HourSheets.{dayOf, tablesOf};
-ghost use Rattle.tariff.specs.Sheets.{dayAnswer, hourSheetAnswer, opened, filled, priceWithin, factorKept};
+ghost use Rattle.tariff.specs.Answers.{told, after};
+ghost use Rattle.tariff.specs.HourSheets.{sheetOf};
+ghost use Rattle.tariff.specs.Sheets.{dayAnswer, hourSheetAnswer, opened, filled, dayEntered, hoursEntered, priceWithin};
 ghost use Rattle.tariff.specs.Tables.{Priced, Factored};
 use crate::hour_sheet::HourSheet;
 use crate::hour_sheet::hours::fill;
@@ -17,11 +16,10 @@ use crate::refusal::Refusal;
 
 impl HourSheet {
     // A sheet with a day's day-ahead prices, on which no hour has a figure.
-    fn of_day(day: u64, heavy: Option<i64>, light: Option<i64>) -> HourSheet
+    pub(crate) fn of_day(day: u64, heavy: Option<i64>, light: Option<i64>) -> HourSheet
         requires heavy { ⌜ priceWithin heavy ≡ true ⌝ }
         requires light { ⌜ priceWithin light ≡ true ⌝ }
-        ensures day { λ r. ⌜ dayOf r ≡ day ⌝ }
-        ensures tables { λ r. ⌜ tablesOf r ≡ opened day heavy light ⌝ }
+        ensures { λ r. ⌜ sheetOf r ≡ opened day heavy light ⌝ }
     {
         HourSheet {
             day,
@@ -34,8 +32,7 @@ impl HourSheet {
 
     // A sheet for day 1 on which every figure is missing.
     pub fn new() -> HourSheet
-        ensures day { λ r. ⌜ dayOf r ≡ 1 ⌝ }
-        ensures tables { λ r. ⌜ tablesOf r ≡ opened 1 None None ⌝ }
+        ensures { λ r. ⌜ sheetOf r ≡ opened 1 None None ⌝ }
     {
         HourSheet::of_day(1, None, None)
     }
@@ -48,8 +45,7 @@ impl HourSheet {
         light: Option<i64>,
     ) -> Result<(), Refusal>
         ensures answer { λ r. ⌜ told r ≡ dayAnswer day heavy light ⌝ }
-        ensures day { λ r. ⌜ dayOf (now (self .exit)) ≡ if-granted (told r) (natAbs day) (dayOf (now (self .entry))) ⌝ }
-        ensures tables { λ r. ⌜ tablesOf (now (self .exit)) ≡ if-granted (told r) (opened (natAbs day) heavy light) (tablesOf (now (self .entry))) ⌝ }
+        ensures sheet { λ r. ⌜ sheetOf (now (self .exit)) ≡ after (told r) (dayEntered day heavy light) (sheetOf (now (self .entry))) ⌝ }
     {
         if day < 1 || day > 4000 {
             return Err(Refusal::Day { position: 1 });
@@ -73,8 +69,7 @@ impl HourSheet {
         requires high { ⌜ last ≤ 24 ⌝ }
         requires price { ⌜ Priced «real_time» ⌝ }
         requires factor { ⌜ Factored factor ⌝ }
-        ensures day { λ _. ⌜ dayOf (now (self .exit)) ≡ dayOf (now (self .entry)) ⌝ }
-        ensures tables { λ _. ⌜ tablesOf (now (self .exit)) ≡ filled (dayOf (now (self .entry))) first last «real_time» factor (tablesOf (now (self .entry))) ⌝ }
+        ensures { λ _. ⌜ sheetOf (now (self .exit)) ≡ filled first last «real_time» factor (sheetOf (now (self .entry))) ⌝ }
     {
         let from = first as usize - 1;
         let to = last as usize;
@@ -91,8 +86,7 @@ impl HourSheet {
         factor: Option<i64>,
     ) -> Result<(), Refusal>
         ensures answer { λ r. ⌜ told r ≡ hourSheetAnswer first last «real_time» factor ⌝ }
-        ensures day { λ _. ⌜ dayOf (now (self .exit)) ≡ dayOf (now (self .entry)) ⌝ }
-        ensures tables { λ r. ⌜ tablesOf (now (self .exit)) ≡ if-granted (told r) (filled (dayOf (now (self .entry))) (natAbs first) (natAbs last) «real_time» (factorKept factor) (tablesOf (now (self .entry)))) (tablesOf (now (self .entry))) ⌝ }
+        ensures sheet { λ r. ⌜ sheetOf (now (self .exit)) ≡ after (told r) (hoursEntered first last «real_time» factor) (sheetOf (now (self .entry))) ⌝ }
     {
         let (first, last) = check_hours(first, last)?;
         check_price(real_time, 3)?;

@@ -5,7 +5,7 @@ ghost use mathlib.Core.Bool.{cond, _&&_};
 ghost use mathlib.Core.Path.{_≡_};
 ghost use Rattle.std.specs.declared.option.Option.the-variants.{Some, None};
 ghost use Rattle.tariff.specs.Blocks.{isHour};
-ghost use Rattle.tariff.specs.HourSheets.{dayOf, tablesOf};
+ghost use Rattle.tariff.specs.HourSheets.{sheetOf, tablesOf};
 use crate::blocks::Block;
 use crate::hour_sheet::HourSheet;
 use crate::source::PriceSource;
@@ -13,7 +13,7 @@ use crate::source::PriceSource;
 impl HourSheet {
     // Where the figures of an hour stand, unless it is another day's or outside the day.
     fn place(&self, day: u64, hour: u64) -> Option<usize>
-        ensures { λ r. ⌜ r ≡ cond (eqb day (dayOf (now (self .entry))) && isHour hour) (Some (hour - 1)) None ⌝ }
+        ensures { λ r. ⌜ r ≡ cond (eqb day (sheetOf (now (self .entry)) .day) && isHour hour) (Some (hour - 1)) None ⌝ }
     {
         if day != self.day || hour < 1 || hour > 24 {
             return None;

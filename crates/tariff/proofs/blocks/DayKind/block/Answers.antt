@@ -11,4 +11,6 @@ use Rattle.tariff.proofs.blocks.DayKind.block.Needs as need
 
 pub returns-in-Workday : need.returns-in-Workday
 returns-in-Workday c =
-    (grind (arith, tells), getD-map-counting (blockOf Workday) 1 24 (c .args .hour - 1) (c .args .hour) Heavy (omega arith) (omega arith) ∙ ap (λ kind. blockOf kind (c .args .hour)) (sym (c .in-Workday .is)))
+    let hour = c .args .hour in
+    let entry = getD-map-counting (blockOf Workday) 1 24 (hour - 1) hour Heavy (omega arith) (omega arith) in
+    (grind (arith, tells), entry ∙ ap (λ kind. blockOf kind hour) (sym (c .in-Workday .is)))

@@ -1,11 +1,10 @@
 use mathlib.Core.Path.{refl}
 use Rattle.tariff.proofs.Places.{priced, no-price, no-factor, no-hour}
-use Rattle.tariff.proofs.SameTables.{same-tables}
+use Rattle.tariff.proofs.SameSheets.{same-sheet}
 use Rattle.tariff.proofs.hour_sheet.HourSheet.of_day.Needs as need
 
 pub ghost-result : need.ghost-result
 ghost-result c = ((priced (c .args .heavy) (c .pre .heavy), priced (c .args .light) (c .pre .light), no-price 24), (no-factor 24, tt))
 
 pub returns : need.returns
-returns c =
-    record { day = refl; tables = same-tables _ _ (λ d block. refl) (no-hour (c .args .day)) (no-hour (c .args .day)) }
+returns c = same-sheet _ _ refl (λ d block. refl) (no-hour (c .args .day)) (no-hour (c .args .day))
