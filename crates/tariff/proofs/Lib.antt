@@ -1,13 +1,5 @@
 pub mod HalfUp
 pub mod Products
 pub mod EnergySize
-pub mod Quoted
-pub mod SameSheets
-pub mod Places
-pub mod SheetLimits
 pub mod AverageSize
-pub mod Claims
-pub mod Counts
-pub mod Ranks
-pub mod Running
-pub mod Largest
+pub mod Quoted

@@ -5,11 +5,4 @@ pub mod Rounding
 pub mod Prices
 pub mod Tables
 pub mod Quotes
-pub mod Sheets
-pub mod HourSheets
-pub mod Quarters
-pub mod QuarterSheets
 pub mod Division
-pub mod RunningTotal
-pub mod LargestRemainder
-pub mod Examples

@@ -1,7 +1,7 @@
 -- Settlement prices of one hour, in cents per MWh. Assumes nothing.
 use Prim.Native.Nat.{ℕ, _*_}
 use lib.Dec.{leb}
-use lib.IntN.{ℤ, pos, natAbs, _*ℤ_, _-ℤ_}
+use lib.IntN.{ℤ, pos, natAbs, _+ℤ_, _*ℤ_, _-ℤ_}
 use mathlib.Core.Bool.{Bool}
 use Rattle.std.specs.Numbers.{maxZ, minZ}
 use Rattle.tariff.specs.Answers.{Answer, require, _then_}
@@ -18,6 +18,17 @@ isPrice price = leb (natAbs price) 1000000
 abbrev pub isFactor : ℕ → Bool
 isFactor factor = leb factor 100000
 
+-- the average of four prices, to the nearest cent
+abbrev pub averagePrice : ℤ → ℤ → ℤ → ℤ → ℤ
+averagePrice first second third fourth = nearest (first +ℤ second +ℤ third +ℤ fourth) (pos 4)
+
+abbrev pub averageAnswer : ℤ → ℤ → ℤ → ℤ → Answer
+averageAnswer first second third fourth =
+    require (isPrice first) (Figure 1)
+    then require (isPrice second) (Figure 2)
+    then require (isPrice third) (Figure 3)
+    then require (isPrice fourth) (Figure 4)
+
 -- the terms in force from the first day
 abbrev pub initialTerms : Terms
 initialTerms = record { cap = 200000; adder = 110; share = 80 }
@@ -32,10 +43,12 @@ totalPrice terms dayAhead factor =
 abbrev pub energyPrice : Terms → ℤ → ℤ → ℤ
 energyPrice terms total realTime = minZ (nearest (pos (terms .share) *ℤ total) (pos 100)) realTime
 
+abbrev pub prices : ℤ → ℤ → ℤ → HourPrices
+prices total energy holdback = record { total = total; energy = energy; holdback = holdback }
+
 -- the total price and its two parts: the energy price, and the holdback price, which is what is left
 abbrev pub pricesAt : Terms → ℤ → ℤ → HourPrices
-pricesAt terms total realTime =
-    record { total = total; energy = energyPrice terms total realTime; holdback = total -ℤ energyPrice terms total realTime }
+pricesAt terms total realTime = prices total (energyPrice terms total realTime) (total -ℤ energyPrice terms total realTime)
 
 abbrev pub hourPrices : Terms → ℤ → ℤ → ℕ → HourPrices
 hourPrices terms dayAhead realTime factor = pricesAt terms (totalPrice terms dayAhead factor) realTime

@@ -6,10 +6,6 @@ ghost use Rattle.tariff.specs.Answers.{told};
 ghost use Rattle.tariff.specs.Division.{Division, Divided, LawfulRule};
 use crate::refusal::Refusal;
 
-mod claims;
-pub mod largest;
-pub mod running;
-
 pub trait DivisionRule {
     // The greatest number of claims above 0 that the rule takes; no call moves it.
     const LIMIT: u64;

@@ -3,8 +3,9 @@ ghost use Prim.Native.Nat.{_*_, _≤_};
 ghost use lib.IntN.{natAbs, pos, _*ℤ_};
 ghost use lib.Signed.{_≤ℤ_};
 ghost use mathlib.Core.Path.{_≡_};
+ghost use Rattle.std.specs.Vec.{made};
 ghost use Rattle.tariff.specs.Answers.{Gives};
-ghost use Rattle.tariff.specs.Prices.{isPrice, initialTerms, totalPrice, energyPrice, hourPrices, pricesAnswer};
+ghost use Rattle.tariff.specs.Prices.{isPrice, averageAnswer, averagePrice, initialTerms, totalPrice, energyPrice, hourPrices, pricesAnswer};
 ghost use Rattle.tariff.specs.Rounding.{nearest};
 use crate::refusal::Refusal;
 
@@ -25,14 +26,14 @@ pub struct HourPrices {
 }
 
 // Whether a price lies within its limits.
-pub(crate) fn is_price(price: i64) -> bool
+pub fn is_price(price: i64) -> bool
     ensures { λ r. ⌜ r ≡ isPrice price ⌝ }
 {
     price.unsigned_abs() <= 1_000_000
 }
 
 // n / d to the nearest whole number, halves up.
-pub(crate) fn nearest_whole(n: i64, d: i64) -> i64
+fn nearest_whole(n: i64, d: i64) -> i64
     requires size { ⌜ natAbs n ≤ 1000000000000000000 ⌝ }
     requires above { ⌜ pos 1 ≤ℤ d ⌝ }
     requires below { ⌜ d ≤ℤ pos 1000000 ⌝ }
@@ -51,6 +52,38 @@ fn scaled(by: u64, price: i64, per: i64) -> i64
 {
     let exact = by as i64 * price;
     nearest_whole(exact, per)
+}
+
+// The average of prices within their limits.
+fn average_within(first: i64, second: i64, third: i64, fourth: i64) -> i64
+    requires first { ⌜ natAbs first ≤ 1000000 ⌝ }
+    requires second { ⌜ natAbs second ≤ 1000000 ⌝ }
+    requires third { ⌜ natAbs third ≤ 1000000 ⌝ }
+    requires fourth { ⌜ natAbs fourth ≤ 1000000 ⌝ }
+    ensures value { λ r. ⌜ r ≡ averagePrice first second third fourth ⌝ }
+    ensures size { λ r. ⌜ natAbs r ≤ 1000000 ⌝ }
+{
+    nearest_whole(first + second + third + fourth, 4)
+}
+
+// The average of four prices, to the nearest cent, or a refusal that names the first outside its limits.
+pub fn average(first: i64, second: i64, third: i64, fourth: i64) -> Result<i64, Refusal>
+    ensures value { λ r. ⌜ Gives (averageAnswer first second third fourth) (averagePrice first second third fourth) r ⌝ }
+    ensures size { λ r. ⌜ made r (λ price. natAbs price ≤ 1000000) ⌝ }
+{
+    if !is_price(first) {
+        return Err(Refusal::Figure { position: 1 });
+    }
+    if !is_price(second) {
+        return Err(Refusal::Figure { position: 2 });
+    }
+    if !is_price(third) {
+        return Err(Refusal::Figure { position: 3 });
+    }
+    if !is_price(fourth) {
+        return Err(Refusal::Figure { position: 4 });
+    }
+    Ok(average_within(first, second, third, fourth))
 }
 
 impl Terms {

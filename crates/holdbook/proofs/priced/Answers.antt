@@ -6,10 +6,9 @@ use Rattle.std.specs.declared.option.Option.the-variants.{Some}
 use Rattle.std.specs.declared.result.Result.{Result}
 use Rattle.std.specs.declared.result.Result.the-variants.{Ok, Err}
 use Rattle.tariff.specs.Answers.{granted, Gives}
-use Rattle.tariff.specs.Examples.{prices}
-use Rattle.tariff.specs.Prices.{initialTerms}
+use Rattle.tariff.specs.Prices.{initialTerms, prices}
 use Rattle.tariff.specs.Quotes.{quoteAnswer, quotedPrices}
-use Rattle.tariff.specs.Sheets.{Sheet, opened, filled}
+use Rattle.sheets.specs.Sheets.{Sheet, opened, filled}
 use Rattle.tariff.specs.declared.blocks.DayKind.the-variants.{Workday}
 use Rattle.tariff.specs.declared.prices.HourPrices.{HourPrices}
 use Rattle.tariff.specs.declared.prices.Terms.{Terms}

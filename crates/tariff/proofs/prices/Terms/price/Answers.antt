@@ -1,17 +1,12 @@
 use native.Mathlib.Omega.{arith}
-use lib.IntN.{ℤ, _-ℤ_}
+use lib.IntN.{_-ℤ_}
 use mathlib.Core.Path.{_≡_, _∙_, ap}
 use mir.Syntax.{w64}
 use mir.Val.{SFits}
 use Rattle.std.proofs.shelf.Signed.{ints, toZ-ofZ}
 use Rattle.std.proofs.shelf.Ways.{tells}
-use Rattle.tariff.specs.Prices.{totalPrice, energyPrice, pricesAt}
-use Rattle.tariff.specs.declared.prices.HourPrices.{HourPrices}
+use Rattle.tariff.specs.Prices.{totalPrice, energyPrice, prices, pricesAt}
 use Rattle.tariff.proofs.prices.Terms.price.Needs as need
-
--- the three prices, from the total price and the energy price
-abbrev parts : ℤ → ℤ → HourPrices
-parts total energy = record { total = total; energy = energy; holdback = total -ℤ energy }
 
 pub returns : need.returns
 returns c =
@@ -25,4 +20,4 @@ returns c =
     let energy : c .energy-price-energy .result ≡ energyPrice (c .args .self) (c .total-price-total .result) (c .args .real-time) =
     simp toZ-ofZ at (c .energy-price-energy .ensures .value) in
     simp toZ-ofZ
-    (grind (arith, tells), ap (parts (c .total-price-total .result)) energy ∙ ap (λ t. pricesAt (c .args .self) t (c .args .real-time)) total)
+    (grind (arith, tells), ap (λ e. prices (c .total-price-total .result) e (c .total-price-total .result -ℤ e)) energy ∙ ap (λ t. pricesAt (c .args .self) t (c .args .real-time)) total)

@@ -1,0 +1,5 @@
+pub mod Accepting
+pub mod Counts
+pub mod Ranks
+pub mod RunningLaw
+pub mod LargestLaw

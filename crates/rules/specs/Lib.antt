@@ -1,0 +1,2 @@
+pub mod RunningTotal
+pub mod LargestRemainder

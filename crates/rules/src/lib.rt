@@ -1,0 +1,4 @@
+// Division rules: largest remainder and running total.
+mod claims;
+pub mod largest;
+pub mod running;

@@ -1,0 +1,3 @@
+pub mod SameSheets
+pub mod Places
+pub mod SheetLimits

@@ -1,0 +1,4 @@
+pub mod Sheets
+pub mod HourSheets
+pub mod Quarters
+pub mod QuarterSheets
