@@ -28,12 +28,15 @@ abbrev pub averageOf : List (Option ℤ) → Option ℤ
 averageOf quarters =
     cond (eqb (length quarters) 4) (average (quarter quarters 0) (quarter quarters 1) (quarter quarters 2) (quarter quarters 3)) None
 
--- the entry of hours with their four quarter-hour prices, at positions 3 to 6, and their factor
-abbrev pub quarterSheetAnswer : ℤ → ℤ → List (Option ℤ) → Option ℤ → Answer
-quarterSheetAnswer first last quarters factor =
-    hoursAnswer first last
-    then require (priceWithin (quarter quarters 0)) (Figure 3)
+-- the four prices stand at positions 3 to 6 of their entry
+abbrev pub quartersAnswer : List (Option ℤ) → Answer
+quartersAnswer quarters =
+    require (priceWithin (quarter quarters 0)) (Figure 3)
     then require (priceWithin (quarter quarters 1)) (Figure 4)
     then require (priceWithin (quarter quarters 2)) (Figure 5)
     then require (priceWithin (quarter quarters 3)) (Figure 6)
-    then require (factorWithin factor) (Figure 7)
+
+-- the entry of hours with their four quarter-hour prices and their factor
+abbrev pub quarterSheetAnswer : ℤ → ℤ → List (Option ℤ) → Option ℤ → Answer
+quarterSheetAnswer first last quarters factor =
+    hoursAnswer first last then quartersAnswer quarters then require (factorWithin factor) (Figure 7)

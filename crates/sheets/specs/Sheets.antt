@@ -8,7 +8,7 @@ use Rattle.std.specs.declared.option.Option.{Option}
 use Rattle.std.specs.declared.option.Option.the-variants.{Some, None}
 use Rattle.tariff.specs.Answers.{Answer, require, _then_}
 use Rattle.tariff.specs.Blocks.{hoursOfDay}
-use Rattle.tariff.specs.Prices.{isPrice}
+use Rattle.tariff.specs.Prices.{isPrice, mostFactor}
 use Rattle.tariff.specs.Tables.{Tables}
 use Rattle.tariff.specs.declared.blocks.Block.{Block}
 use Rattle.tariff.specs.declared.blocks.Block.the-variants.{Heavy, Light}
@@ -25,7 +25,7 @@ priceWithin (Some price) = isPrice price
 
 abbrev pub factorWithin : Option ℤ → Bool
 factorWithin None = true
-factorWithin (Some factor) = between 0 100000 factor
+factorWithin (Some factor) = between 0 mostFactor factor
 
 -- an accepted factor, as it is kept
 abbrev pub factorKept : Option ℤ → Option ℕ

@@ -4,9 +4,10 @@ ghost use lib.IntN.{natAbs, pos, _+ℤ_};
 ghost use mathlib.Core.Bool.{true};
 ghost use mathlib.Core.Path.{_≡_};
 ghost use Rattle.std.specs.declared.option.Option.the-variants.{None};
-ghost use Rattle.tariff.specs.Answers.{told, after};
+ghost use Rattle.std.specs.Vec.{made};
+ghost use Rattle.tariff.specs.Answers.{told, after, Gives};
 ghost use Rattle.sheets.specs.QuarterSheets.{sheetOf, tablesOf, quartersEntered};
-ghost use Rattle.sheets.specs.Quarters.{averageOf, quarter, quarterSheetAnswer};
+ghost use Rattle.sheets.specs.Quarters.{averageOf, quarter, quartersAnswer, quarterSheetAnswer};
 ghost use Rattle.tariff.specs.Rounding.{nearest};
 ghost use Rattle.sheets.specs.Sheets.{dayAnswer, opened, dayEntered, priceWithin};
 ghost use Rattle.tariff.specs.Tables.{Priced};
@@ -49,6 +50,18 @@ fn average(quarters: &[Option<i64>]) -> Option<i64>
     }
 }
 
+// Four quarters at positions 3 to 6 of their entry, as the price that they come to.
+fn check_quarters(quarters: &[Option<i64>; 4]) -> Result<Option<i64>, Refusal>
+    ensures value { λ r. ⌜ Gives (quartersAnswer (now (quarters .entry))) (averageOf (now (quarters .entry))) r ⌝ }
+    ensures priced { λ r. ⌜ made r Priced ⌝ }
+{
+    check_price(quarters[0], 3)?;
+    check_price(quarters[1], 4)?;
+    check_price(quarters[2], 5)?;
+    check_price(quarters[3], 6)?;
+    Ok(average(quarters))
+}
+
 impl QuarterSheet {
     // A sheet for day 1 on which every figure is missing.
     pub fn new() -> QuarterSheet
@@ -85,12 +98,8 @@ impl QuarterSheet {
             ≡ after (told r) (quartersEntered first last (now (quarters .entry)) factor) (sheetOf (now (self .entry))) ⌝ }
     {
         let (first, last) = check_hours(first, last)?;
-        check_price(quarters[0], 3)?;
-        check_price(quarters[1], 4)?;
-        check_price(quarters[2], 5)?;
-        check_price(quarters[3], 6)?;
+        let real_time = check_quarters(quarters)?;
         let factor = check_factor(factor, 7)?;
-        let real_time = average(quarters);
         self.hours.fill_hours(first, last, real_time, factor);
         Ok(())
     }

@@ -11,12 +11,18 @@ use Rattle.tariff.specs.declared.prices.Terms.{Terms}
 use Rattle.tariff.specs.declared.refusal.Refusal.the-variants.{Figure}
 
 -- a price lies from −1,000,000 to 1,000,000 cents per MWh
+abbrev pub mostPrice : ℕ
+mostPrice = 1000000
+
 abbrev pub isPrice : ℤ → Bool
-isPrice price = leb (natAbs price) 1000000
+isPrice price = leb (natAbs price) mostPrice
 
 -- a shaping factor lies from 0 to 100,000 ten-thousandths
+abbrev pub mostFactor : ℕ
+mostFactor = 100000
+
 abbrev pub isFactor : ℕ → Bool
-isFactor factor = leb factor 100000
+isFactor factor = leb factor mostFactor
 
 -- the average of four prices, to the nearest cent
 abbrev pub averagePrice : ℤ → ℤ → ℤ → ℤ → ℤ

@@ -4,6 +4,7 @@ use lib.IntN.{ℤ, natAbs}
 use mathlib.Core.Path.{_≡_}
 use Rattle.std.specs.declared.option.Option.{Option}
 use Rattle.std.specs.declared.option.Option.the-variants.{Some}
+use Rattle.tariff.specs.Prices.{mostPrice, mostFactor}
 use Rattle.tariff.specs.declared.blocks.Block.{Block}
 
 -- day-ahead prices by day and block, real-time prices and shaping factors by day and hour
@@ -12,13 +13,13 @@ pub record Tables : Type 0 where
   pub realTime : ℕ → ℕ → Option ℤ
   pub factor : ℕ → ℕ → Option ℕ
 
--- a price, unless it is missing, lies from −1,000,000 to 1,000,000
+-- a price, unless it is missing, lies within its limits
 abbrev pub Priced : Option ℤ → Type 0
-Priced place = (price : ℤ) → place ≡ Some price → natAbs price ≤ 1000000
+Priced place = (price : ℤ) → place ≡ Some price → natAbs price ≤ mostPrice
 
--- a shaping factor, unless it is missing, lies from 0 to 100,000
+-- and so does a shaping factor
 abbrev pub Factored : Option ℕ → Type 0
-Factored place = (factor : ℕ) → place ≡ Some factor → factor ≤ 100000
+Factored place = (factor : ℕ) → place ≡ Some factor → factor ≤ mostFactor
 
 -- the limits that every source keeps
 pub record Limited (tables : Tables) : Type 0 where
