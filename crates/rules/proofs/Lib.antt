@@ -3,3 +3,4 @@ pub mod Counts
 pub mod Ranks
 pub mod RunningLaw
 pub mod LargestLaw
+pub mod LargestFirst

@@ -28,7 +28,7 @@ module _ (r : ℕ → ℕ) where
   ahead-on : (i j k : ℕ) → ahead r i j ≡ true → ahead r j k ≡ true → ahead r i k ≡ true
   ahead-on i j k h l = grind (arith, tells)
 
-  rank-less : (n i j : ℕ) → i < n → ahead r j i ≡ true → rankOf r n i < rankOf r n j
+  pub rank-less : (n i j : ℕ) → i < n → ahead r j i ≡ true → rankOf r n i < rankOf r n j
   rank-less n i j l h = count-less (ahead r i) (ahead r j) n (λ k _ e. ahead-on j i k h e) i l (ahead-not-self i) h
 
   -- the rank among one place more

@@ -1,9 +1,11 @@
 -- Largest remainder. Assumes nothing.
-use Prim.Native.Nat.{ℕ, zero, suc, _+_, _-_, _*_, _/_, _%_}
+use Prim.Native.Nat.{ℕ, zero, suc, _+_, _-_, _*_, _/_, _%_, _<_}
 use lib.Dec.{eqb, ltb}
 use lib.ListN.{length, getD}
 use mathlib.Core.Bool.{Bool, true, false, _&&_, _||_}
 use mathlib.Core.List.{List, map}
+use mathlib.Core.Logic.{_⊎_}
+use mathlib.Core.Path.{_≡_}
 use Rattle.std.specs.Iters.{counting}
 use Rattle.std.specs.shelf.Lists.{sum}
 use Rattle.tariff.specs.Division.{Division}
@@ -51,3 +53,16 @@ largestShare total claims i = keyedShare (remainder total claims) total claims i
 
 abbrev pub largest : Division
 largest total claims = map (largestShare total claims) (counting 0 (length claims))
+
+-- What the rule comes to, whatever the total and the claims: a share is the whole part or one unit more; and where one
+-- place got a unit and another did not, the first has the larger remainder, or an equal one and stands earlier.
+pub record UnitsToLargest (total : ℕ) (claims : List ℕ) : Type 0 where
+  pub single : (i : ℕ) → i < length claims
+      → (getD (largest total claims) i 0 ≡ wholePart total claims i) ⊎ (getD (largest total claims) i 0 ≡ wholePart total claims i + 1)
+  pub larger : (i j : ℕ) → i < length claims → j < length claims
+      → getD (largest total claims) i 0 ≡ wholePart total claims i + 1
+      → getD (largest total claims) j 0 ≡ wholePart total claims j
+      → (remainder total claims j < remainder total claims i) ⊎ ((remainder total claims j ≡ remainder total claims i) × (i < j))
+
+abbrev pub LargestFirst : Type 0
+LargestFirst = (total : ℕ) (claims : List ℕ) → UnitsToLargest total claims
