@@ -4,7 +4,7 @@ ghost use Rattle.tariff.specs.Answers.{Gives};
 ghost use Rattle.tariff.specs.Blocks.{blockOf, blockAnswer};
 use crate::refusal::Refusal;
 
-// W stands for Monday to Saturday, S for Sundays and holidays.
+// A workday (W) is a Monday to Saturday that is no holiday; Sundays and holidays are of the other kind (S).
 #[derive(Clone, Copy)]
 pub enum DayKind {
     Workday,
