@@ -35,7 +35,8 @@ pub fn price_hour<S: PriceSource>(
     day: u64,
     hour: u64,
 ) -> Result<HourPrices, Refusal>
-    ensures { Gives (quote_answer (tables source.now) kind day hour) (quoted_prices terms (tables source.now) kind day hour) result }
+    ensures { Gives (quote_answer (S.tables source.now) kind day hour)
+        (quoted_prices terms (S.tables source.now) kind day hour) result }
 {
     let block = kind.block(hour)?;
     let Some(day_ahead) = source.day_ahead(day, block) else {

@@ -14,6 +14,6 @@ returns c =
     let s2 : SFits w64 (c.args.first +ℤ c.args.second) = omega (arith, ints) in
     let s3 : SFits w64 (c.args.first +ℤ c.args.second +ℤ c.args.third) = omega (arith, ints) in
     let s4 : SFits w64 sum = omega (arith, ints) in
-    let r : SFits w64 c.nearest-whole.result = record { sfits = c.nearest-whole.type-inv } in
-    let value : c.nearest-whole.result ≡ nearest sum (pos 4) = simp to_z-of_z at c.nearest-whole.ensures in
+    let r : SFits w64 c.nearest_whole.result = record { sfits = c.nearest_whole.type_inv } in
+    let value : c.nearest_whole.result ≡ nearest sum (pos 4) = simp to_z-of_z at c.nearest_whole.ensures in
     simp to_z-of_z (record { value = value; size = rw value (average_size sum (omega (arith, ints))) })
