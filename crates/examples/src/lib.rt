@@ -1,4 +1,6 @@
 // The worked examples, as theorems about the definitions.
+#![tactic(auto)]
+
 ghost use Rattle.examples.specs.Examples.{Examples};
 ghost use Rattle.examples.specs.WorkedSessions.{WorkedSessions};
 

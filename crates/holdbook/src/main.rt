@@ -1,4 +1,6 @@
 // Prices an hour of one day from a sheet of index prices, divides a request over offers, and prints what it did.
+#![tactic(auto)]
+
 ghost use Rattle.std.specs.Prelude.{◌≡◌, pos, Ok};
 ghost use Rattle.tariff.specs.Answers.{Gives};
 ghost use Rattle.tariff.specs.Division.{division_answer};
@@ -30,7 +32,7 @@ fn divided<R: DivisionRule>(
     request: u64,
     offers: [u64; 2],
 ) -> Result<[u64; 2], Refusal>
-    ensures { Gives (division_answer most request offers 2) (meaning rule.old request offers) result }
+    ensures { Gives (division_answer R.most request offers 2) (R.meaning rule.old request offers) result }
 {
     let mut holdings = [0; 2];
     rule.divide(request, &offers, &mut holdings)?;

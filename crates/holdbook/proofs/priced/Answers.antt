@@ -31,8 +31,8 @@ hour_eight before after terms r d h t gives = let e : after â‰¡ hours day = h âˆ
 
 pub returns : goal.returns
 returns c =
-    hour_eight _ _ c.initial.result c.price-hour.result
-    c.in-ok-enter-day.ensures.sheet
-    c.in-ok-enter-hours.ensures.sheet
+    hour_eight _ _ c.initial.result c.price_hour.result
+    c.in_ok-enter_day.ensures.sheet
+    c.in_ok-enter_hours.ensures.sheet
     c.initial.ensures
-    c.price-hour.ensures
+    c.price_hour.ensures

@@ -3,8 +3,8 @@ use Rattle.std.proofs.lemmas.List.Sums.{sum_by_more}
 use Rattle.rules.specs.Accepting.{claim_within}
 use Rattle.rules.proofs.claims.total_of.Goals as goal
 
-pub overflow-add-all : goal.overflow-add-all
-overflow-add-all c = omega (arith, claim_within c.args.claims.now c.loop-w.w-index c.requires.within)
+pub overflow_add-all : goal.overflow_add-all
+overflow_add-all c = omega (arith, claim_within c.args.claims.now c.loop-w.w-index c.requires.within)
 
 pub loop-w-preserved : goal.loop-w-preserved
 loop-w-preserved c =

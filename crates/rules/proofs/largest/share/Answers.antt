@@ -5,24 +5,24 @@ use Rattle.rules.specs.Accepting.{kept, share_fits}
 use Rattle.rules.specs.Ranks.{rank_same}
 use Rattle.rules.proofs.largest.share.Goals as goal
 
-pub give-units-requires : goal.give-units-requires
-give-units-requires c =
+pub give_units-requires : goal.give_units-requires
+give_units-requires c =
     let k = kept 12 c.args.total c.args.claims.now c.requires.accepted in
     record {
       few = omega arith;
       places = omega arith;
-      room = λ i h. omega (arith, c.whole-parts-left.ensures.wholes i (omega arith), share_fits c.args.total c.args.claims.now i k);
+      room = λ i h. omega (arith, c.whole_parts-left.ensures.wholes i (omega arith), share_fits c.args.total c.args.claims.now i k);
     }
 
 pub returns : goal.returns
 returns c =
     let T = c.args.total in
     let ws = c.args.claims.now in
-    let rests = c.whole-parts-left.new.remainders in
+    let rests = c.whole_parts-left.new.remainders in
     let n : length rests ≡ length ws = omega arith in
-    fill_by_all (largest_share T ws) c.give-units.new.shares (length ws) 0 (omega arith)
+    fill_by_all (largest_share T ws) c.give_units.new.shares (length ws) 0 (omega arith)
     (λ k h.
-    let unit = c.give-units.ensures k (omega arith) in
-    let whole = c.whole-parts-left.ensures.wholes k h in
-    let same = rank_same (λ j. get_or rests j 0) (remainder T ws) (length ws) k h c.whole-parts-left.ensures.rests in
+    let unit = c.give_units.ensures k (omega arith) in
+    let whole = c.whole_parts-left.ensures.wholes k h in
+    let same = rank_same (λ j. get_or rests j 0) (remainder T ws) (length ws) k h c.whole_parts-left.ensures.rests in
     cc)

@@ -6,13 +6,13 @@ use Rattle.rules.specs.Counts.{sum_to_more}
 use Rattle.rules.specs.LargestLaw.{whole_within}
 use Rattle.rules.proofs.largest.whole_parts.Goals as goal
 
-pub overflow-mul-due : goal.overflow-mul-due
-overflow-mul-due c =
+pub overflow_mul-due : goal.overflow_mul-due
+overflow_mul-due c =
     let k = kept 12 c.args.total c.args.claims.now c.requires.accepted in
     omega (arith, product_fits c.args.total (get_or c.args.claims.now c.loop-i.i 0) k.amount (omega (arith, k.claim c.loop-i.i)))
 
-pub overflow-sub-left : goal.overflow-sub-left
-overflow-sub-left c =
+pub overflow_sub-left : goal.overflow_sub-left
+overflow_sub-left c =
     let T = c.args.total in
     let ws = c.args.claims.now in
     let i = c.loop-i.i in

@@ -7,19 +7,19 @@ use Rattle.rules.specs.Accepting.{kept, product_fits}
 use Rattle.rules.specs.RunningLaw.{reached_mono, reached_more}
 use Rattle.rules.proofs.running.share.Goals as goal
 
-pub overflow-add-claimed : goal.overflow-add-claimed
-overflow-add-claimed c =
+pub overflow_add-claimed : goal.overflow_add-claimed
+overflow_add-claimed c =
     let k = kept 12 c.args.total c.args.claims.now c.requires.accepted in
     omega (arith, k.claim c.loop-i.i)
 
-pub overflow-mul-reached : goal.overflow-mul-reached
-overflow-mul-reached c =
+pub overflow_mul-reached : goal.overflow_mul-reached
+overflow_mul-reached c =
     let k = kept 12 c.args.total c.args.claims.now c.requires.accepted in
     let w = k.claim c.loop-i.i in
     omega (arith, product_fits c.args.total (c.loop-i.claimed + get_or c.args.claims.now c.loop-i.i 0) k.amount (omega arith))
 
-pub overflow-sub-shares : goal.overflow-sub-shares
-overflow-sub-shares c =
+pub overflow_sub-shares : goal.overflow_sub-shares
+overflow_sub-shares c =
     let T = c.args.total in
     let ws = c.args.claims.now in
     let i = c.loop-i.i in
