@@ -1,3 +1,5 @@
 pub mod HalfUp
+pub mod Products
+pub mod EnergySize
 pub mod AverageSize
 pub mod Quoted
