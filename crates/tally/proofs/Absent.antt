@@ -1,5 +1,5 @@
 -- A number above the last party's has no payment. Assumes nothing.
-use Rattle.std.proofs.Common.{◌≡◌, ℕ, ◌*◌, ◌<◌, ◌≤◌, Bool, true, false, cond, eqb, ltb, ◌⊎◌, pos, ◌+ℤ◌, ◌*ℤ◌, refl, ap, ap₂, inl, inr, ⊎_elim, mul-zero, arith}
+use Rattle.std.proofs.Common.{◌≡◌, ℕ, ◌<◌, ◌≤◌, Bool, true, false, cond, eqb, ltb, ◌⊎◌, pos, ◌+ℤ◌, refl, ap, ap₂, inl, inr, ⊎_elim, mul-zero, arith}
 use lib.IntN.{zero-*ℤ}
 use Rattle.std.proofs.lemmas.Bool.{cases_lt}
 use Rattle.tariff.specs.Answers.{granted}

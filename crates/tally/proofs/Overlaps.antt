@@ -1,5 +1,5 @@
 -- Pairs of stretches laid end to end: they fill each stretch, and none is longer than its own. Assumes nothing.
-use Rattle.std.proofs.Common.{◌≡◌, ℕ, zero, suc, ◌-◌, ◌<◌, ◌≤◌, ◌∙◌, arith}
+use Rattle.std.proofs.Common.{◌≡◌, ℕ, zero, suc, ◌<◌, ◌≤◌, ◌∙◌, arith}
 use Rattle.tally.specs.Hours.{Hour}
 use Rattle.tally.specs.Numbered.{total, before}
 use Rattle.tally.specs.Pairs.{overlap, pair}
