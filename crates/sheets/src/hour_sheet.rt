@@ -1,5 +1,5 @@
 // The prices of one day, hour by hour.
-ghost use Rattle.std.specs.Prelude.{ℕ, get_or, None, slice_index_or};
+ghost use Rattle.std.specs.Prelude.{ℕ, None, slice_index_or};
 ghost use Rattle.tariff.specs.Tables.{Priced, Factored};
 
 mod entries;
@@ -15,6 +15,6 @@ pub struct HourSheet {
     light: Option<i64>,
     real_time: [Option<i64>; 24],
     factors: [Option<u64>; 24],
-    ghost priced: { Priced heavy × Priced light × ((h : ℕ) → Priced (get_or real_time h None)) },
+    ghost priced: { Priced heavy × Priced light × ((h : ℕ) → Priced (slice_index_or real_time h None)) },
     ghost factored: { (h : ℕ) → Factored (slice_index_or factors h None) },
 }

@@ -1,5 +1,5 @@
 -- Dividing an amount among claims: when a rule refuses, the law that every rule keeps, and what one call does. Assumes nothing.
-use Rattle.std.specs.Prelude.{◌≡◌, ℕ, ◌+◌, ◌-◌, ◌*◌, ◌<◌, Bool, true, ◌&&◌, ◌||◌, ltb, List, [], ◌∷◌, length, sum, count_by, ◌==◌, nat_le, nat_lt, slice_index}
+use Rattle.std.specs.Prelude.{◌≡◌, ℕ, ◌+◌, ◌-◌, ◌*◌, ◌<◌, Bool, true, ◌&&◌, ◌||◌, List, [], ◌∷◌, length, sum, count_by, ◌==◌, nat_le, nat_lt, slice_index}
 use Rattle.tariff.specs.Answers.{Answer, granted, denied, ◌then◌, require, if_granted}
 use Rattle.tariff.specs.declared.refusal.Refusal.TheVariants.{ShareLists, DivisionFigure, NoClaims, TooManyClaims}
 
@@ -14,7 +14,7 @@ all_within (claim ∷ claims) = nat_le claim 500000 && all_within claims
 
 -- how many claims are above 0
 abbrev pub above_zero : List ℕ → ℕ
-above_zero claims = count_by (λ claim. ltb 0 claim) claims
+above_zero claims = count_by (λ claim. nat_lt 0 claim) claims
 
 -- The answer of a rule that takes `most` claims above 0, where there are so many places for shares. In this order:
 -- equal lists of at most 12 places; a total of at most 10^12 and claims within their limit; a claim above 0 where the

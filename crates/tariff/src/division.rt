@@ -9,7 +9,7 @@ pub trait DivisionRule {
     // The greatest number of claims above 0 that the rule takes; no call moves it.
     const LIMIT: u64;
 
-    // LIMIT for clauses, which cannot name a constant of a trait.
+    // LIMIT, as clauses name it.
     ghost most: { ℕ };
 
     // The division that the rule would give now to every amount and claims that it accepts.
