@@ -1,5 +1,6 @@
--- The number, the two places and the layer of each refusal. Assumes nothing.
-use Rattle.std.specs.Prelude.{ℕ}
+-- The number, the two places, the text and the layer of each refusal. Assumes nothing.
+use Rattle.std.specs.Prelude.{ℕ, List, ◌++◌, codes}
+use Rattle.std.specs.Fmt.{decimal}
 use Rattle.tariff.specs.declared.refusal.Layer.{Layer}
 use Rattle.tariff.specs.declared.refusal.Layer.TheVariants.{LineWriter, SetUp, DayKeeper, Buyer, Seller, Pool, PriceSource, DivisionRule}
 use Rattle.tariff.specs.declared.refusal.Quote.{Quote}
@@ -74,6 +75,10 @@ places_of ShareLists = (0, 0)
 places_of DivisionFigure = (0, 0)
 places_of NoClaims = (0, 0)
 places_of (TooManyClaims count limit) = (count, limit)
+
+-- how it is printed, as in "41, places 8 and 3"
+abbrev pub refusal_text : Refusal → List ℕ
+refusal_text e = decimal (number_of e) ++ codes ", places " ++ decimal (places_of e).0 ++ codes " and " ++ decimal (places_of e).1
 
 -- who answers for a refusal
 abbrev pub layer_of : Refusal → Layer

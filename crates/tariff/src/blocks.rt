@@ -5,13 +5,13 @@ ghost use Rattle.tariff.specs.Blocks.{block_of, block_answer};
 use crate::refusal::Refusal;
 
 // A workday (W) is a Monday to Saturday that is no holiday; Sundays and holidays are of the other kind (S).
-#[derive(Clone, Copy)]
+#[derive(Clone, Copy, Debug, PartialEq, Eq)]
 pub enum DayKind {
     Workday,
     Sunday,
 }
 
-#[derive(Clone, Copy)]
+#[derive(Clone, Copy, Debug, PartialEq, Eq)]
 pub enum Block {
     Heavy,
     Light,
@@ -50,7 +50,7 @@ impl DayKind {
     pub fn block(self, hour: u64) -> Result<Block, Refusal>
         ensures { Gives (block_answer hour) (block_of self hour) result }
     {
-        if hour < 1 || hour > 24 {
+        if !(1..=24).contains(&hour) {
             return Err(Refusal::Hour { position: 1 });
         }
         match self {

@@ -5,6 +5,7 @@
 pub mod blocks;
 pub mod charges;
 pub mod division;
+pub mod figures;
 pub mod laws;
 pub mod prices;
 pub mod refusal;

@@ -4,10 +4,11 @@ ghost use Rattle.tariff.specs.Answers.{Gives};
 ghost use Rattle.tariff.specs.Prices.{is_price, average_answer, average_price, initial_terms, total_price, energy_price, hour_prices, prices_answer};
 ghost use Rattle.tariff.specs.Rounding.{nearest};
 
+use crate::figures::{Factor, Figure, Price};
 use crate::refusal::Refusal;
 
 // What the pool reviews: the cap on the total price in cents, and the adder and the energy share in percent.
-#[derive(Clone, Copy)]
+#[derive(Clone, Copy, Debug, PartialEq, Eq)]
 pub struct Terms {
     pub cap: u32,
     pub adder: u16,
@@ -15,7 +16,7 @@ pub struct Terms {
 }
 
 // What a buyer pays for each MW held and each MWh delivered, and both together.
-#[derive(Clone, Copy)]
+#[derive(Clone, Copy, Debug, PartialEq, Eq)]
 pub struct HourPrices {
     pub total: i64,
     pub energy: i64,
@@ -47,20 +48,18 @@ fn scaled(by: u64, price: i64, per: i64) -> i64
     requires below { per ≤ℤ pos 1000000 }
     ensures { result ≡ nearest (pos by *ℤ price) per }
 {
-    let exact = by as i64 * price;
-    nearest_whole(exact, per)
+    nearest_whole(by as i64 * price, per)
 }
 
-// The average of prices within their limits.
-fn average_within(first: i64, second: i64, third: i64, fourth: i64) -> i64
-    requires first { unsigned_abs first ≤ 1000000 }
-    requires second { unsigned_abs second ≤ 1000000 }
-    requires third { unsigned_abs third ≤ 1000000 }
-    requires fourth { unsigned_abs fourth ≤ 1000000 }
-    ensures value { result ≡ average_price first second third fourth }
-    ensures size { unsigned_abs result ≤ 1000000 }
-{
-    nearest_whole(first + second + third + fourth, 4)
+impl Price {
+    // The average of four prices, to the nearest cent.
+    pub fn average(first: Price, second: Price, third: Price, fourth: Price) -> Price
+        ensures { result.cents ≡ average_price first.cents second.cents third.cents fourth.cents }
+    {
+        Price {
+            cents: nearest_whole(first.cents + second.cents + third.cents + fourth.cents, 4),
+        }
+    }
 }
 
 // The average of four prices, to the nearest cent, or a refusal that names the first outside its limits.
@@ -68,19 +67,11 @@ pub fn average(first: i64, second: i64, third: i64, fourth: i64) -> Result<i64, 
     ensures value { Gives (average_answer first second third fourth) (average_price first second third fourth) result }
     ensures size { IfOk result (λ price. unsigned_abs price ≤ 1000000) }
 {
-    if !is_price(first) {
-        return Err(Refusal::Figure { position: 1 });
-    }
-    if !is_price(second) {
-        return Err(Refusal::Figure { position: 2 });
-    }
-    if !is_price(third) {
-        return Err(Refusal::Figure { position: 3 });
-    }
-    if !is_price(fourth) {
-        return Err(Refusal::Figure { position: 4 });
-    }
-    Ok(average_within(first, second, third, fourth))
+    let first = Price::enter(first, 1)?;
+    let second = Price::enter(second, 2)?;
+    let third = Price::enter(third, 3)?;
+    let fourth = Price::enter(fourth, 4)?;
+    Ok(Price::average(first, second, third, fourth).cents)
 }
 
 impl Terms {
@@ -95,48 +86,36 @@ impl Terms {
         }
     }
 
-    // The total price of figures within their limits.
-    fn total_price(self, day_ahead: i64, factor: u64) -> i64
-        requires price { unsigned_abs day_ahead ≤ 1000000 }
-        requires factor { factor ≤ 100000 }
-        ensures value { result ≡ total_price self day_ahead factor }
-        ensures low { pos 0 ≤ℤ result }
-        ensures high { result ≤ℤ pos self.cap }
+    // The total price, which is never below 0.
+    fn total_price(self, day_ahead: Price, factor: Factor) -> u32
+        ensures { pos result ≡ total_price self day_ahead.cents factor.parts }
     {
-        let by = factor * self.adder as u64;
-        scaled(by, day_ahead, 1_000_000).clamp(0, self.cap as i64)
+        let by = factor.parts * u64::from(self.adder);
+        scaled(by, day_ahead.cents, 1_000_000).clamp(0, i64::from(self.cap)) as u32
     }
 
-    // The energy price at a total price within the cap.
-    fn energy_price(self, total: i64, real_time: i64) -> i64
-        requires low { pos 0 ≤ℤ total }
-        requires high { total ≤ℤ pos self.cap }
-        requires price { unsigned_abs real_time ≤ 1000000 }
-        ensures value { result ≡ energy_price self total real_time }
-        ensures size { unsigned_abs result ≤ 1000000 }
+    // The energy price at a total price.
+    fn energy_price(self, total: u32, real_time: Price) -> Price
+        ensures { result.cents ≡ energy_price self (pos total) real_time.cents }
     {
-        scaled(self.share as u64, total, 100).min(real_time)
+        Price {
+            cents: scaled(u64::from(self.share), i64::from(total), 100).min(real_time.cents),
+        }
     }
 
     // The prices of an hour, or a refusal that names the first figure outside its limits.
     pub fn price(self, day_ahead: i64, real_time: i64, factor: u64) -> Result<HourPrices, Refusal>
         ensures { Gives (prices_answer day_ahead real_time factor) (hour_prices self day_ahead real_time factor) result }
     {
-        if !is_price(day_ahead) {
-            return Err(Refusal::Figure { position: 1 });
-        }
-        if !is_price(real_time) {
-            return Err(Refusal::Figure { position: 2 });
-        }
-        if factor > 100_000 {
-            return Err(Refusal::Figure { position: 3 });
-        }
+        let day_ahead = Price::enter(day_ahead, 1)?;
+        let real_time = Price::enter(real_time, 2)?;
+        let factor = Factor::new(factor).ok_or(Refusal::Figure { position: 3 })?;
         let total = self.total_price(day_ahead, factor);
-        let energy = self.energy_price(total, real_time);
+        let energy = self.energy_price(total, real_time).cents;
         Ok(HourPrices {
-            total,
+            total: i64::from(total),
             energy,
-            holdback: total - energy,
+            holdback: i64::from(total) - energy,
         })
     }
 }

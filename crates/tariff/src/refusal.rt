@@ -1,17 +1,33 @@
 // Why a call of the book, its sheets, rules or lines is refused.
-ghost use Rattle.std.specs.Prelude.{◌≡◌};
-ghost use Rattle.tariff.specs.Refusals.{number_of, places_of, layer_of};
+ghost use Rattle.std.specs.Prelude.{◌≡◌, Some};
+ghost use Rattle.tariff.specs.Refusals.{number_of, places_of, layer_of, quote_number, refusal_text};
+
+use std::error::Error;
+use std::fmt;
 
 // What a price source can lack.
-#[derive(Clone, Copy)]
+#[derive(Clone, Copy, Debug, PartialEq, Eq)]
 pub enum Quote {
     DayAhead,
     RealTime,
     Factor,
 }
 
+// The number by which the second place of a missing price tells it.
+impl From<Quote> for u64 {
+    ghost from_gives = { λ quote number. number ≡ quote_number quote };
+
+    fn from(quote: Quote) -> u64 {
+        match quote {
+            Quote::DayAhead => 1,
+            Quote::RealTime => 2,
+            Quote::Factor => 3,
+        }
+    }
+}
+
 // Who answers for a refusal.
-#[derive(Clone, Copy)]
+#[derive(Clone, Copy, Debug, PartialEq, Eq)]
 pub enum Layer {
     LineWriter,
     SetUp,
@@ -24,7 +40,7 @@ pub enum Layer {
 }
 
 // One case for each refusal of the project. A position counts the figures of the refused entry from 1.
-#[derive(Clone, Copy)]
+#[derive(Clone, Copy, Debug, PartialEq, Eq)]
 pub enum Refusal {
     LineTooLong,
     UnknownLetter,
@@ -112,7 +128,7 @@ impl Refusal {
             ),
             Refusal::AboveDeployment { seller, buyer } => (seller, buyer),
             Refusal::AboveSupply { hour, short } => (hour, short),
-            Refusal::MissingPrice { hour, quote } => (hour, quote as u64 + 1),
+            Refusal::MissingPrice { hour, quote } => (hour, u64::from(quote)),
             Refusal::TooManyClaims { count, limit } => (count, limit),
             _ => (0, 0),
         }
@@ -122,15 +138,45 @@ impl Refusal {
     pub fn layer(self) -> Layer
         ensures { result ≡ layer_of self }
     {
-        match self.number() {
-            0..=15 => Layer::LineWriter,
-            16..=25 => Layer::SetUp,
-            26..=39 => Layer::DayKeeper,
-            40..=42 => Layer::Buyer,
-            43..=51 => Layer::Seller,
-            52..=61 => Layer::Pool,
-            62..=66 => Layer::PriceSource,
-            _ => Layer::DivisionRule,
+        match self {
+            Refusal::LineTooLong
+            | Refusal::UnknownLetter
+            | Refusal::FieldCount
+            | Refusal::Misspelt { .. }
+            | Refusal::ShortTarget { .. } => Layer::LineWriter,
+            Refusal::Parties
+            | Refusal::Rates
+            | Refusal::SecondSetUp
+            | Refusal::NotSetUp
+            | Refusal::PageSize { .. } => Layer::SetUp,
+            Refusal::DayOpen
+            | Refusal::NoDayOpen
+            | Refusal::Day { .. }
+            | Refusal::Month { .. }
+            | Refusal::Hour { .. }
+            | Refusal::Party { .. }
+            | Refusal::Figure { .. }
+            | Refusal::HourAllotted { .. }
+            | Refusal::HourNotAllotted { .. } => Layer::DayKeeper,
+            Refusal::AboveShortfall { .. } | Refusal::AboveRequest { .. } => Layer::Buyer,
+            Refusal::AboveDeployment { .. } => Layer::Seller,
+            Refusal::AboveSupply { .. } => Layer::Pool,
+            Refusal::MissingPrice { .. } => Layer::PriceSource,
+            Refusal::ShareLists
+            | Refusal::DivisionFigure
+            | Refusal::NoClaims
+            | Refusal::TooManyClaims { .. } => Layer::DivisionRule,
         }
     }
 }
+
+impl fmt::Display for Refusal {
+    ghost output = { λ refusal. Some (refusal_text refusal) };
+
+    fn fmt<W: fmt::Write>(&self, f: &mut fmt::Formatter<W>) -> fmt::Result {
+        let (first, second) = self.places();
+        write!(f, "{}, places {first} and {second}", self.number())
+    }
+}
+
+impl Error for Refusal {}

@@ -38,24 +38,12 @@ pub fn price_hour<S: PriceSource>(
     ensures { Gives (quote_answer (S.tables source.now) kind day hour)
         (quoted_prices terms (S.tables source.now) kind day hour) result }
 {
+    let missing = |quote| Refusal::MissingPrice { hour, quote };
     let block = kind.block(hour)?;
-    let Some(day_ahead) = source.day_ahead(day, block) else {
-        return Err(Refusal::MissingPrice {
-            hour,
-            quote: Quote::DayAhead,
-        });
-    };
-    let Some(real_time) = source.real_time(day, hour) else {
-        return Err(Refusal::MissingPrice {
-            hour,
-            quote: Quote::RealTime,
-        });
-    };
-    let Some(factor) = source.factor(day, hour) else {
-        return Err(Refusal::MissingPrice {
-            hour,
-            quote: Quote::Factor,
-        });
-    };
+    let day_ahead = source
+        .day_ahead(day, block)
+        .ok_or(missing(Quote::DayAhead))?;
+    let real_time = source.real_time(day, hour).ok_or(missing(Quote::RealTime))?;
+    let factor = source.factor(day, hour).ok_or(missing(Quote::Factor))?;
     terms.price(day_ahead, real_time, factor)
 }
