@@ -1,2 +1,2 @@
 pub mod SameSheets
-pub mod Places
+pub mod Filled

@@ -1,5 +1,5 @@
+pub mod Kept
 pub mod Sheets
-pub mod HourSheets
+pub mod DaySheets
 pub mod Quarters
-pub mod QuarterSheets
 pub mod SheetLimits

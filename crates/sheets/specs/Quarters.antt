@@ -2,7 +2,7 @@
 use Rattle.std.specs.Prelude.{ℕ, cond, List, length, ℤ, Some, None, Option, ◌==◌, slice_index_or}
 use Rattle.tariff.specs.Answers.{Answer, require, ◌then◌}
 use Rattle.tariff.specs.Prices.{average_price}
-use Rattle.sheets.specs.Sheets.{hours_answer, price_within, factor_within}
+use Rattle.sheets.specs.Sheets.{price_within}
 use Rattle.tariff.specs.declared.refusal.Refusal.TheVariants.{Figure}
 
 -- the average of four results to the nearest cent, halves up, and missing if one of them is
@@ -28,8 +28,3 @@ quarters_answer quarters =
     then require (price_within (quarter quarters 1)) (Figure 4)
     then require (price_within (quarter quarters 2)) (Figure 5)
     then require (price_within (quarter quarters 3)) (Figure 6)
-
--- the entry of hours with their four quarter-hour prices and their factor
-abbrev pub quarter_sheet_answer : ℤ → ℤ → List (Option ℤ) → Option ℤ → Answer
-quarter_sheet_answer first last quarters factor =
-    hours_answer first last then quarters_answer quarters then require (factor_within factor) (Figure 7)

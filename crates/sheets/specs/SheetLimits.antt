@@ -1,21 +1,35 @@
--- An hour sheet keeps the limits of prices and factors. Assumes nothing.
-use Rattle.std.specs.Prelude.{ℕ, ◌-◌}
-use Rattle.std.proofs.Common.{arith}
-use Rattle.std.proofs.lemmas.Bool.Decides.{nat_tests}
-use Rattle.sheets.specs.HourSheets.{tables_of}
-use Rattle.tariff.specs.Tables.{Priced, Limited}
+-- A sheet keeps the limits of prices and factors. Assumes nothing.
+use Rattle.std.specs.Prelude.{◌≡◌, ℕ, ◌≤◌, Bool, true, false, cond, ℤ, Some, None, Option, ◌==◌, unsigned_abs}
+use Rattle.std.proofs.Common.{subst}
+use Rattle.tariff.specs.Tables.{Priced, Factored, Limited}
 use Rattle.tariff.specs.declared.blocks.Block.{Block}
 use Rattle.tariff.specs.declared.blocks.Block.TheVariants.{Heavy, Light}
-use Rattle.sheets.specs.declared.hour_sheet.HourSheet.{HourSheet}
+use Rattle.tariff.specs.declared.figures.Factor.{Factor}
+use Rattle.tariff.specs.declared.figures.Price.{Price}
+use Rattle.sheets.specs.DaySheets.{tables_of, hour_of}
+use Rattle.sheets.specs.Kept.{cents_of, parts_of}
+use Rattle.sheets.specs.declared.day_sheet.DaySheet.{DaySheet}
 
-block_priced : (sheet : HourSheet) (day : ℕ) (block : Block) → Priced ((tables_of sheet).day_ahead day block)
-block_priced sheet day Heavy = λ price e. sheet.priced.0 price (grind (arith, nat_tests))
-block_priced sheet day Light = λ price e. sheet.priced.1 price (grind (arith, nat_tests))
+priced : (kept : Option Price) → Priced (cents_of kept)
+priced None price e = absurd cc
+priced (Some p) price e = let same : p.cents ≡ price = cc in subst (λ c. unsigned_abs c ≤ 1000000) same p.within
 
-pub sheet_limited : (sheet : HourSheet) → Limited (tables_of sheet)
+factored : (kept : Option Factor) → Factored (parts_of kept)
+factored None factor e = absurd cc
+factored (Some f) factor e = let same : f.parts ≡ factor = cc in subst (λ n. n ≤ 100000) same f.within
+
+only_if : (b : Bool) (place : Option ℤ) → Priced place → Priced (cond b place None)
+only_if true place h = h
+only_if false place h = λ price e. absurd cc
+
+block_priced : {Q : Type 0} (sheet : DaySheet Q) (day : ℕ) (block : Block) → Priced ((tables_of sheet).day_ahead day block)
+block_priced sheet day Heavy = only_if (day == sheet.day) (cents_of sheet.heavy) (priced sheet.heavy)
+block_priced sheet day Light = only_if (day == sheet.day) (cents_of sheet.light) (priced sheet.light)
+
+pub sheet_limited : {Q : Type 0} (sheet : DaySheet Q) → Limited (tables_of sheet)
 sheet_limited sheet =
     record {
       day_ahead = block_priced sheet;
-      real_time = λ day hour price e. sheet.priced.2 (hour - 1) price (grind (arith, nat_tests));
-      factor = λ day hour factor e. sheet.factored (hour - 1) factor (grind (arith, nat_tests));
+      real_time = λ day hour. priced (hour_of sheet day hour).real_time;
+      factor = λ day hour. factored (hour_of sheet day hour).factor;
     }

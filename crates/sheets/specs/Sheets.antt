@@ -1,25 +1,20 @@
 -- What the sheets of prices hold and how entries fill them. Assumes nothing.
-use Rattle.std.specs.Prelude.{ℕ, Bool, true, cond, ◌&&◌, ℤ, pos, Some, None, Option, ◌==◌, int_le, nat_le, unsigned_abs}
+use Rattle.std.specs.Prelude.{ℕ, Bool, cond, ◌&&◌, ℤ, Some, None, Option, ◌==◌, int_le, nat_le, unsigned_abs}
 use Rattle.tariff.specs.Answers.{Answer, require, ◌then◌}
 use Rattle.tariff.specs.Blocks.{hours_of_day}
+use Rattle.tariff.specs.Figures.{between, or_missing}
 use Rattle.tariff.specs.Prices.{is_price, most_factor}
 use Rattle.tariff.specs.Tables.{Tables}
 use Rattle.tariff.specs.declared.blocks.Block.{Block}
 use Rattle.tariff.specs.declared.blocks.Block.TheVariants.{Heavy, Light}
 use Rattle.tariff.specs.declared.refusal.Refusal.TheVariants.{Day, Hour, Figure}
 
--- whether an entered figure lies from low to high
-abbrev pub between : ℕ → ℕ → ℤ → Bool
-between low high figure = int_le (pos low) figure && int_le figure (pos high)
-
 -- an entered price or factor is missing, or within its limits
 abbrev pub price_within : Option ℤ → Bool
-price_within None = true
-price_within (Some price) = is_price price
+price_within price = or_missing is_price price
 
 abbrev pub factor_within : Option ℤ → Bool
-factor_within None = true
-factor_within (Some factor) = between 0 most_factor factor
+factor_within factor = or_missing (between 0 most_factor) factor
 
 -- an accepted factor, as it is kept
 abbrev pub factor_kept : Option ℤ → Option ℕ
@@ -39,12 +34,14 @@ hours_answer first last =
     require (between 1 hours_of_day first) (Hour 1)
     then require (between 1 hours_of_day last && int_le first last) (Hour 2)
 
--- the entry of hours with their real-time price and factor
-abbrev pub hour_sheet_answer : ℤ → ℤ → Option ℤ → Option ℤ → Answer
-hour_sheet_answer first last price factor =
-    hours_answer first last
-    then require (price_within price) (Figure 3)
-    then require (factor_within factor) (Figure 4)
+-- the real-time price of an entry of hours, where it is one figure
+abbrev pub price_answer : Option ℤ → Answer
+price_answer price = require (price_within price) (Figure 3)
+
+-- the entry of hours: the hours, the figures that give their real-time price, and their factor
+abbrev pub hours_entry_answer : ℤ → ℤ → (prices : Answer) (position : ℕ) → Option ℤ → Answer
+hours_entry_answer first last prices position factor =
+    hours_answer first last then prices then require (factor_within factor) (Figure position)
 
 -- a sheet is for one day; its tables are missing on every other
 pub record Sheet : Type 0 where

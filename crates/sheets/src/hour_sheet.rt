@@ -1,20 +1,23 @@
-// The prices of one day, hour by hour.
-ghost use Rattle.std.specs.Prelude.{ℕ, None, slice_index_or};
-ghost use Rattle.tariff.specs.Tables.{Priced, Factored};
+// A sheet on which each hour's real-time price is entered as one figure.
+ghost use Rattle.sheets.specs.Sheets.{price_answer};
 
-mod entries;
-mod hours;
-pub(crate) mod limits;
-mod quotes;
+use crate::day_sheet::DaySheet;
+use crate::real_time::RealTime;
+use tariff::figures::{Price, enter_or_miss};
+use tariff::refusal::Refusal;
 
-// Hour h has its figures at place h - 1.
-#[derive(Drop)]
-pub struct HourSheet {
-    day: u64,
-    heavy: Option<i64>,
-    light: Option<i64>,
-    real_time: [Option<i64>; 24],
-    factors: [Option<u64>; 24],
-    ghost priced: { Priced heavy × Priced light × ((h : ℕ) → Priced (slice_index_or real_time h None)) },
-    ghost factored: { (h : ℕ) → Factored (slice_index_or factors h None) },
+pub type HourSheet = DaySheet<Option<i64>>;
+
+impl RealTime for Option<i64> {
+    const FACTOR: u64 = 4;
+
+    ghost FACTOR = { 4 };
+
+    ghost answer = { price_answer };
+
+    ghost price = { λ price. price };
+
+    fn settle(self) -> Result<Option<Price>, Refusal> {
+        enter_or_miss(self, 3)
+    }
 }

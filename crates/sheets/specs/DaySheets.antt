@@ -1,0 +1,32 @@
+-- What a sheet holds. Assumes nothing.
+use Rattle.std.specs.Prelude.{ℕ, ◌-◌, cond, ◌&&◌, None, ◌==◌, slice_index_or}
+use Rattle.tariff.specs.Blocks.{is_hour}
+use Rattle.tariff.specs.Tables.{Tables}
+use Rattle.sheets.specs.Kept.{cents_of, parts_of}
+use Rattle.sheets.specs.Sheets.{Sheet, block_price}
+use Rattle.sheets.specs.declared.day_sheet.DaySheet.{DaySheet}
+use Rattle.sheets.specs.declared.day_sheet.Hour.{Hour}
+
+-- an hour that has no figure
+abbrev pub missing : Hour
+missing = record { real_time = None; factor = None }
+
+-- what stands for an hour of a day; other days, and hours outside the day, have no figure
+abbrev pub hour_of : {Q : Type 0} → DaySheet Q → ℕ → ℕ → Hour
+hour_of sheet day hour = cond (day == sheet.day && is_hour hour) (slice_index_or sheet.hours (hour - 1) missing) missing
+
+-- the sheet's own day has the figures that stand on it, every other day is missing
+abbrev pub sheet_of : {Q : Type 0} → DaySheet Q → Sheet
+sheet_of sheet =
+    record {
+      day = sheet.day;
+      tables = record {
+        day_ahead = λ day block. cond (day == sheet.day) (block_price (cents_of sheet.heavy) (cents_of sheet.light) block) None;
+        real_time = λ day hour. cents_of (hour_of sheet day hour).real_time;
+        factor = λ day hour. parts_of (hour_of sheet day hour).factor;
+      };
+    }
+
+-- what it means as a source of prices
+abbrev pub tables_of : {Q : Type 0} → DaySheet Q → Tables
+tables_of sheet = (sheet_of sheet).tables

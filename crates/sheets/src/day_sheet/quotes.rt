@@ -1,0 +1,45 @@
+// A sheet as a source of prices.
+ghost use Rattle.std.specs.Prelude.{◌≡◌};
+ghost use Rattle.sheets.specs.DaySheets.{sheet_of, tables_of, hour_of};
+ghost use Rattle.sheets.specs.SheetLimits.{sheet_limited};
+
+use crate::day_sheet::{DaySheet, Hour};
+use tariff::blocks::Block;
+use tariff::source::PriceSource;
+
+impl<Q> DaySheet<Q> {
+    // What stands for an hour, nothing if it is another day's or outside the day.
+    fn hour(&self, day: u64, hour: u64) -> Hour
+        ensures { result ≡ hour_of self.now day hour }
+    {
+        if day != self.day || !(1..=24).contains(&hour) {
+            return Hour::MISSING;
+        }
+        self.hours[hour as usize - 1]
+    }
+}
+
+impl<Q> PriceSource for DaySheet<Q> {
+    ghost tables = { tables_of };
+
+    ghost limited = { λ source. sheet_limited source };
+
+    fn day_ahead(&self, day: u64, block: Block) -> Option<i64> {
+        if day != self.day {
+            return None;
+        }
+        let price = match block {
+            Block::Heavy => self.heavy,
+            Block::Light => self.light,
+        };
+        price.map(|price| price.cents)
+    }
+
+    fn real_time(&self, day: u64, hour: u64) -> Option<i64> {
+        self.hour(day, hour).real_time.map(|price| price.cents)
+    }
+
+    fn factor(&self, day: u64, hour: u64) -> Option<u64> {
+        self.hour(day, hour).factor.map(|factor| factor.parts)
+    }
+}

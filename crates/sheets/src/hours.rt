@@ -1,0 +1,34 @@
+// The hours of an entry.
+ghost use Rattle.std.specs.Prelude.{◌≡◌, ◌≤◌, IfOk, unsigned_abs};
+ghost use Rattle.tariff.specs.Answers.{told};
+ghost use Rattle.sheets.specs.Sheets.{hours_answer};
+
+use tariff::refusal::Refusal;
+
+// From the first to the last.
+#[derive(Clone, Copy, Debug, PartialEq, Eq)]
+pub(crate) struct Hours {
+    pub(crate) first: usize,
+    pub(crate) last: usize,
+    ghost low: { 1 ≤ first },
+    ghost order: { first ≤ last },
+    ghost high: { last ≤ 24 },
+}
+
+impl Hours {
+    pub(crate) fn enter(first: i64, last: i64) -> Result<Hours, Refusal>
+        ensures answer { told result ≡ hours_answer first last }
+        ensures value { IfOk result (λ hours. (hours.first ≡ unsigned_abs first) × (hours.last ≡ unsigned_abs last)) }
+    {
+        if !(1..=24).contains(&first) {
+            return Err(Refusal::Hour { position: 1 });
+        }
+        if !(first..=24).contains(&last) {
+            return Err(Refusal::Hour { position: 2 });
+        }
+        Ok(Hours {
+            first: first as usize,
+            last: last as usize,
+        })
+    }
+}
