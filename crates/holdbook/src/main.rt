@@ -32,17 +32,11 @@ fn divided<R: DivisionRule>(
     request: u64,
     offers: [u64; 2],
 ) -> Result<[u64; 2], Refusal>
-    ensures { Gives (division_answer R.most request offers 2) (R.meaning rule.old request offers) result }
+    ensures { Gives (division_answer R.LIMIT request offers 2) (R.meaning rule.old request offers) result }
 {
     let mut holdings = [0; 2];
     rule.divide(request, &offers, &mut holdings)?;
     Ok(holdings)
-}
-
-fn tell(rt: &HostRuntime, refusal: Refusal) -> io::Result<()> {
-    let number = refusal.number();
-    let (first, second) = refusal.places();
-    println!(rt; "refused by {number}, places {first} and {second}")
 }
 
 fn show_prices(rt: &HostRuntime) -> io::Result<()> {
@@ -56,7 +50,7 @@ fn show_prices(rt: &HostRuntime) -> io::Result<()> {
             let holdback = hour.holdback;
             println!(rt; "hour 8: total {total}, energy {energy}, holdback {holdback}")
         }
-        Err(refusal) => tell(rt, refusal),
+        Err(refusal) => println!(rt; "refused by {refusal}"),
     }
 }
 
@@ -75,7 +69,7 @@ fn show_holdings<R: DivisionRule>(
                 "request {request} over offers {first} and {second} by {name}: {a} and {b}"
             )
         }
-        Err(refusal) => tell(rt, refusal),
+        Err(refusal) => println!(rt; "refused by {refusal}"),
     }
 }
 

@@ -20,15 +20,12 @@ impl Hours {
         ensures answer { told result ≡ hours_answer first last }
         ensures value { IfOk result (λ hours. (hours.first ≡ unsigned_abs first) × (hours.last ≡ unsigned_abs last)) }
     {
-        if !(1..=24).contains(&first) {
+        let Ok(first @ 1..=24) = usize::try_from(first) else {
             return Err(Refusal::Hour { position: 1 });
+        };
+        match usize::try_from(last) {
+            Ok(last) if (first..=24).contains(&last) => Ok(Hours { first, last }),
+            _ => Err(Refusal::Hour { position: 2 }),
         }
-        if !(first..=24).contains(&last) {
-            return Err(Refusal::Hour { position: 2 });
-        }
-        Ok(Hours {
-            first: first as usize,
-            last: last as usize,
-        })
     }
 }

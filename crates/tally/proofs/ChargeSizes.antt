@@ -6,7 +6,7 @@ use Rattle.tariff.specs.Charges.{delivery_factor}
 use Rattle.tariff.specs.declared.blocks.Block.{Block}
 use Rattle.tariff.specs.declared.charges.Cover.{Cover}
 use Rattle.tariff.specs.declared.charges.Cover.TheVariants.{Covered, Uncovered}
-use Rattle.tariff.proofs.Products.{product_le}
+use Rattle.tally.proofs.Products.{product_le}
 use Rattle.tally.specs.Charges.{charge, cut_charge, failure_days}
 use Rattle.tally.specs.DayPrices.{DayPrices, hour_at, in_block, day_ahead_at}
 use Rattle.tally.specs.Numbered.{total, total_z, positive_part}

@@ -13,6 +13,8 @@ pub mod Accounts
 pub mod Sizes
 pub mod BlockHours
 pub mod Revenue
+pub mod Products
+pub mod EnergySize
 pub mod PriceSizes
 pub mod MakeWholeSize
 pub mod Divisions

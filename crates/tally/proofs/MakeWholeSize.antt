@@ -2,7 +2,7 @@
 use Rattle.std.proofs.Common.{◌≡◌, ℕ, zero, suc, ◌+◌, ◌*◌, ◌≤◌, Bool, true, false, cond, ltb, ℤ, pos, negsuc, ◌+ℤ◌, ◌-ℤ◌, ◌*ℤ◌, neg_ℤ, nat_abs, ◌≤ℤ◌, sym, add-mul, zero-mul, arith}
 use Rattle.std.proofs.lemmas.Int.{ints}
 use Rattle.tariff.specs.declared.blocks.Block.{Block}
-use Rattle.tariff.proofs.Products.{abs_mul, product_le}
+use Rattle.tally.proofs.Products.{abs_mul, product_le}
 use Rattle.tally.specs.DayPrices.{DayPrices, hour_at, in_block, prices_of}
 use Rattle.tally.specs.Numbered.{total, positive_part}
 use Rattle.tally.specs.Pairs.{pair, delivered, declined}

@@ -8,7 +8,7 @@ use Rattle.tariff.specs.Rounding.{nearest}
 use Rattle.tariff.specs.Tables.{Tables, Limited, Priced}
 use Rattle.tariff.specs.declared.blocks.Block.{Block}
 use Rattle.tariff.specs.declared.prices.Terms.{Terms}
-use Rattle.tariff.proofs.EnergySize.{energy_size}
+use Rattle.tally.proofs.EnergySize.{energy_size}
 use Rattle.tally.specs.DayPrices.{DayPrices, needed_prices, day_ahead_at, is_held_in, is_priced, prices_of}
 use Rattle.tally.specs.Numbered.{positive_part}
 use Rattle.tally.specs.States.{State}

@@ -50,11 +50,11 @@ impl DayKind {
     pub fn block(self, hour: u64) -> Result<Block, Refusal>
         ensures { Gives (block_answer hour) (block_of self hour) result }
     {
-        if !(1..=24).contains(&hour) {
+        let Ok(hour @ 1..=24) = usize::try_from(hour) else {
             return Err(Refusal::Hour { position: 1 });
-        }
+        };
         match self {
-            DayKind::Workday => Ok(WORKDAY[hour as usize - 1]),
+            DayKind::Workday => Ok(WORKDAY[hour - 1]),
             DayKind::Sunday => Ok(Block::Light),
         }
     }

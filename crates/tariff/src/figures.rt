@@ -33,7 +33,7 @@ pub struct Price {
 // A shaping factor, in ten-thousandths.
 #[derive(Clone, Copy, Debug, PartialEq, Eq, PartialOrd, Ord)]
 pub struct Factor {
-    pub parts: u64,
+    pub parts: u32,
     ghost within: { parts ≤ most_factor },
 }
 
@@ -56,6 +56,7 @@ impl Factor {
         ensures variant { is_some result ≡ is_factor parts }
         ensures value { IfSome result (λ factor. factor.parts ≡ parts) }
     {
+        let parts = u32::try_from(parts).ok()?;
         if parts > 100_000 {
             return None;
         }

@@ -48,7 +48,9 @@ fn scaled(by: u64, price: i64, per: i64) -> i64
     requires below { per ≤ℤ pos 1000000 }
     ensures { result ≡ nearest (pos by *ℤ price) per }
 {
-    nearest_whole(by as i64 * price, per)
+    // It fits: try_from would add an error that never comes.
+    let exact = by as i64 * price;
+    nearest_whole(exact, per)
 }
 
 impl Price {
@@ -90,7 +92,8 @@ impl Terms {
     fn total_price(self, day_ahead: Price, factor: Factor) -> u32
         ensures { pos result ≡ total_price self day_ahead.cents factor.parts }
     {
-        let by = factor.parts * u64::from(self.adder);
+        let by = u64::from(factor.parts) * u64::from(self.adder);
+        // Clamped it fits: try_from would add an error that never comes.
         scaled(by, day_ahead.cents, 1_000_000).clamp(0, i64::from(self.cap)) as u32
     }
 

@@ -43,12 +43,12 @@ impl<Q: RealTime> DaySheet<Q> {
         ensures answer { told result ≡ day_answer day heavy light }
         ensures sheet { sheet_of self.new ≡ after (told result) (day_entered day heavy light) (sheet_of self.old) }
     {
-        if !(1..=4000).contains(&day) {
+        let Ok(day @ 1..=4000) = u64::try_from(day) else {
             return Err(Refusal::Day { position: 1 });
-        }
+        };
         let heavy = enter_or_miss(heavy, 2)?;
         let light = enter_or_miss(light, 3)?;
-        *self = DaySheet::of_day(day as u64, heavy, light);
+        *self = DaySheet::of_day(day, heavy, light);
         Ok(())
     }
 

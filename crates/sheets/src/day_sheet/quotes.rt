@@ -12,10 +12,10 @@ impl<Q> DaySheet<Q> {
     fn hour(&self, day: u64, hour: u64) -> Hour
         ensures { result ≡ hour_of self.now day hour }
     {
-        if day != self.day || !(1..=24).contains(&hour) {
-            return Hour::MISSING;
+        match usize::try_from(hour) {
+            Ok(hour @ 1..=24) if day == self.day => self.hours[hour - 1],
+            _ => Hour::MISSING,
         }
-        self.hours[hour as usize - 1]
     }
 }
 
@@ -40,6 +40,7 @@ impl<Q> PriceSource for DaySheet<Q> {
     }
 
     fn factor(&self, day: u64, hour: u64) -> Option<u64> {
-        self.hour(day, hour).factor.map(|factor| factor.parts)
+        let factor = self.hour(day, hour).factor;
+        factor.map(|factor| u64::from(factor.parts))
     }
 }
