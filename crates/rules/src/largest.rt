@@ -88,17 +88,13 @@ fn share(total: u64, claims: &[u64], shares: &mut [u64])
 impl DivisionRule for LargestRemainder {
     const LIMIT: u64 = 10;
 
-    ghost most = { 10 };
+    ghost LIMIT = { 10 };
 
     ghost meaning = { λ _. largest };
 
     ghost moves = { Unmoved };
 
     ghost lawful = { λ rule. largest_lawful };
-
-    fn most_claims() -> u64 {
-        Self::LIMIT
-    }
 
     fn divide(&mut self, total: u64, claims: &[u64], shares: &mut [u64]) -> Result<(), Refusal> {
         admit(Self::LIMIT, total, claims, shares.len())?;

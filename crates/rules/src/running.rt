@@ -31,17 +31,13 @@ fn share(total: u64, claims: &[u64], shares: &mut [u64])
 impl DivisionRule for RunningTotal {
     const LIMIT: u64 = 12;
 
-    ghost most = { 12 };
+    ghost LIMIT = { 12 };
 
     ghost meaning = { λ _. running };
 
     ghost moves = { Unmoved };
 
     ghost lawful = { λ rule. running_lawful };
-
-    fn most_claims() -> u64 {
-        Self::LIMIT
-    }
 
     fn divide(&mut self, total: u64, claims: &[u64], shares: &mut [u64]) -> Result<(), Refusal> {
         admit(Self::LIMIT, total, claims, shares.len())?;

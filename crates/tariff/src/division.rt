@@ -9,8 +9,7 @@ pub trait DivisionRule {
     // The greatest number of claims above 0 that the rule takes; no call moves it.
     const LIMIT: u64;
 
-    // LIMIT, as clauses name it.
-    ghost most: { ℕ };
+    ghost LIMIT: { ℕ };
 
     // The division that the rule would give now to every amount and claims that it accepts.
     ghost meaning: { Self → Division };
@@ -18,14 +17,17 @@ pub trait DivisionRule {
     // What an accepted division of an amount among claims may make of the meaning.
     ghost moves: { Division → ℕ → List ℕ → Division → Type 0 };
 
-    // LIMIT, tied to what clauses name.
+    // The limit, for callers at run time.
     fn most_claims() -> u64
-        ensures { result ≡ most };
+        ensures { result ≡ LIMIT }
+    {
+        Self::LIMIT
+    }
 
     // Writes the shares of `total` among `claims`, or refuses and alters neither the rule nor the shares.
     fn divide(&mut self, total: u64, claims: &[u64], shares: &mut [u64]) -> Result<(), Refusal>
-        ensures { Divided most moves (meaning self.old) total claims.now shares.old
+        ensures { Divided LIMIT moves (meaning self.old) total claims.now shares.old
             (told result) shares.new (meaning self.new) };
 
-    ghost lawful: { (rule : Self) → LawfulRule most (meaning rule) };
+    ghost lawful: { (rule : Self) → LawfulRule LIMIT (meaning rule) };
 }
