@@ -1,5 +1,5 @@
 -- Sums and counts over the places below n. Assumes nothing.
-use Rattle.std.specs.Prelude.{◌≡◌, ℕ, zero, suc, ◌+◌, ◌*◌, ◌<◌, ◌≤◌, Bool, true, false, map, sum, refl}
+use Rattle.std.specs.Prelude.{◌≡◌, ℕ, zero, suc, ◌+◌, ◌*◌, ◌<◌, ◌≤◌, Bool, true, false, map, sum_by, refl}
 use Rattle.std.proofs.Common.{⊎_elim, sym, subst, ap, ◌∙◌, add-mul, add-one, arith}
 use Rattle.std.specs.List.{range_with_len}
 use Rattle.std.proofs.lemmas.List.FromFn.{sum_by-map-range_with_len_more}
@@ -14,11 +14,11 @@ by_count P z s (suc n) = subst P (add-one n) (s n (by_count P z s n))
 pub sum_to_more : (f : ℕ → ℕ) (n : ℕ) → sum_to f (n + 1) ≡ sum_to f n + f n
 sum_to_more f n = rw add-one
 
--- the list of f 0, f 1, .. comes to their sum
-pub sum_counting : (f : ℕ → ℕ) (n : ℕ) → sum (map f (range_with_len 0 n)) ≡ sum_to f n
-sum_counting f =
-    by_count (λ n. sum (map f (range_with_len 0 n)) ≡ sum_to f n) refl
-    (λ n before. sum_by-map-range_with_len_more (λ x. x) f 0 n n (omega arith) ∙ ap (λ s. s + f n) before ∙ sym (sum_to_more f n))
+-- the sum over a list of f 0, f 1, ..
+pub sum_counting : {X : Type 0} (g : X → ℕ) (f : ℕ → X) (n : ℕ) → sum_by g (map f (range_with_len 0 n)) ≡ sum_to (λ i. g (f i)) n
+sum_counting g f =
+    by_count (λ n. sum_by g (map f (range_with_len 0 n)) ≡ sum_to (λ i. g (f i)) n) refl
+    (λ n before. sum_by-map-range_with_len_more g f 0 n n (omega arith) ∙ ap (λ s. s + g (f n)) before ∙ sym (sum_to_more (λ i. g (f i)) n))
 
 pub sum_to_add : (f g : ℕ → ℕ) (n : ℕ) → sum_to (λ i. f i + g i) n ≡ sum_to f n + sum_to g n
 sum_to_add f g =

@@ -1,12 +1,12 @@
 -- Largest remainder keeps the law. Assumes nothing.
 use Rattle.std.specs.Prelude.{◌≡◌, ℕ, zero, suc, ◌+◌, ◌*◌, ◌/◌, ◌%◌, ◌<◌, ◌≤◌, Bool, true, false, ltb, List, length, take, sum, nat_lt, slice_index, refl}
-use Rattle.std.proofs.Common.{take_all, inl, inr, ⊎_elim, ap, ◌∙◌, add-mul, div-add-mod', le_of_mul-le-mul_right, mod-lt, one-mul, zero-mul, arith}
+use Rattle.std.proofs.Common.{take_all, ⊎_elim, ap, ◌∙◌, add-mul, div-add-mod', le_of_mul-le-mul_right, mod-lt, one-mul, zero-mul, arith}
 use Rattle.std.proofs.Math.Nat.{zero-div}
 use Rattle.std.proofs.lemmas.Bool.{cases_lt, lt-ltb, ltb-true}
 use Rattle.std.proofs.lemmas.Bool.Decides.{nat_tests}
 use Rattle.tariff.specs.Division.{LawfulRule, gap}
 use Rattle.rules.specs.LargestRemainder.{ahead, count_to, largest, largest_share, one_if, rank_of, remainder, sum_to, units_left, whole_part}
-use Rattle.rules.specs.Accepting.{Claimed, kept, lawful_by, product_more}
+use Rattle.rules.specs.Accepting.{Claimed, claimed, lawful_by, product_more}
 use Rattle.rules.specs.Counts.{by_count, count_le, count_within, sum_counting, sum_to_add, sum_to_front, sum_to_le, sum_to_more, sum_to_none, sum_to_scale}
 use Rattle.rules.specs.Ranks.{ranked}
 
@@ -36,8 +36,11 @@ module _ (T : ℕ) (ws : List ℕ) where
 
   -- the whole parts come to no more than the total
   wholes_le : Claimed T ws → sum_to (whole_part T ws) (length ws) ≤ T
-  wholes_le (inl z) = omega (arith, sum_to_none (whole_part T ws) (length ws) (λ i. rw (z, zero-mul, zero-div)))
-  wholes_le (inr h) = le_of_mul-le-mul_right (omega (arith, all_parts)) h
+  wholes_le ok =
+      ⊎_elim
+      (λ (h : 0 < sum ws). le_of_mul-le-mul_right (omega (arith, all_parts)) h)
+      (λ (h : sum ws ≤ 0). let z : T ≡ 0 = ok (omega arith) in omega (arith, sum_to_none (whole_part T ws) (length ws) (λ i. rw (z, zero-mul, zero-div))))
+      (cases_lt 0 (sum ws))
 
   -- a whole part is at most what the ones before it leave
   pub whole_within : Claimed T ws → (i : ℕ) → i < length ws → sum_to (whole_part T ws) i + whole_part T ws i ≤ T
@@ -45,15 +48,18 @@ module _ (T : ℕ) (ws : List ℕ) where
 
   -- there is no more than one unit for each remainder above 0
   left_le : Claimed T ws → units_left T ws ≤ count_to (λ i. ltb 0 (remainder T ws i)) (length ws)
-  left_le (inl z) = omega arith
-  left_le (inr h) =
+  left_le ok =
       let n = length ws in
       let units = λ (i : ℕ). one_if (nat_lt 0 (remainder T ws i)) in
+      ⊎_elim
+      (λ (h : 0 < sum ws).
       let low : (i : ℕ) → remainder T ws i ≤ sum ws = λ i. omega (arith, mod-lt (T * slice_index ws i) h) in
       let each = sum_to_le (remainder T ws) (λ i. units i * sum ws) n (λ i _. covered (remainder T ws i) (sum ws) (low i)) in
       let split = add-mul (units_left T ws) (sum_to (whole_part T ws) n) (sum ws) in
-      let back : (units_left T ws + sum_to (whole_part T ws) n) * sum ws ≡ T * sum ws = ap (λ n. n * sum ws) (omega (arith, wholes_le (inr h))) in
-      le_of_mul-le-mul_right (omega (arith, all_parts, sum_to_scale units (sum ws) n)) h
+      let back : (units_left T ws + sum_to (whole_part T ws) n) * sum ws ≡ T * sum ws = ap (λ n. n * sum ws) (omega (arith, wholes_le ok)) in
+      le_of_mul-le-mul_right (omega (arith, all_parts, sum_to_scale units (sum ws) n)) h)
+      (λ (h : sum ws ≤ 0). let z : T ≡ 0 = ok (omega arith) in omega arith)
+      (cases_lt 0 (sum ws))
 
   -- a unit goes to a remainder above 0 alone
   served_above : Claimed T ws → (i : ℕ) → rank_of (remainder T ws) (length ws) i < units_left T ws → 0 < remainder T ws i
@@ -66,10 +72,10 @@ module _ (T : ℕ) (ws : List ℕ) where
 
 pub largest_lawful : LawfulRule 10 largest
 largest_lawful T ws ok =
-    let claimed = (kept 10 T ws ok).claimed in
+    let own = claimed 10 T ws ok in
     let unit = λ (i : ℕ). ltb (rank_of (remainder T ws) (length ws) i) (units_left T ws) in
-    let few : units_left T ws ≤ length ws = omega (arith, left_le T ws claimed, count_within (λ i. ltb 0 (remainder T ws i)) (length ws)) in
+    let few : units_left T ws ≤ length ws = omega (arith, left_le T ws own, count_within (λ i. ltb 0 (remainder T ws i)) (length ws)) in
     let units = ranked (remainder T ws) (length ws) (units_left T ws) few in
     let both = sum_to_add (whole_part T ws) (λ i. one_if (unit i)) (length ws) in
-    lawful_by (largest_share T ws) T ws (sum_counting (largest_share T ws) (length ws) ∙ both ∙ omega (arith, wholes_le T ws claimed))
-    (λ h i l. near_one (T * slice_index ws i) (sum ws) (unit i) h (λ e. served_above T ws claimed i (ltb-true _ _ e)))
+    lawful_by (largest_share T ws) T ws (sum_counting (λ x. x) (largest_share T ws) (length ws) ∙ both ∙ omega (arith, wholes_le T ws own))
+    (λ h i l. near_one (T * slice_index ws i) (sum ws) (unit i) h (λ e. served_above T ws own i (ltb-true _ _ e)))

@@ -1,5 +1,5 @@
 -- Largest remainder. Assumes nothing.
-use Rattle.std.specs.Prelude.{◌≡◌, ℕ, zero, suc, ◌+◌, ◌-◌, ◌*◌, ◌/◌, ◌%◌, ◌<◌, Bool, true, false, ◌&&◌, ◌||◌, ◌⊎◌, List, map, length, sum, ◌==◌, nat_lt, slice_index}
+use Rattle.std.specs.Prelude.{◌≡◌, ℕ, zero, suc, ◌+◌, ◌-◌, ◌*◌, ◌/◌, ◌%◌, ◌<◌, Bool, if◌then◌else◌, ◌&&◌, ◌||◌, ◌⊎◌, List, map, length, sum, ◌==◌, nat_lt, slice_index}
 use Rattle.std.specs.List.{range_with_len}
 use Rattle.tariff.specs.Division.{Division}
 
@@ -9,8 +9,7 @@ sum_to f zero = 0
 sum_to f (suc n) = sum_to f n + f n
 
 abbrev pub one_if : Bool → ℕ
-one_if true = 1
-one_if false = 0
+one_if b = if b then 1 else 0
 
 -- how many of the first n places pass a test
 abbrev pub count_to : (ℕ → Bool) → ℕ → ℕ

@@ -1,14 +1,15 @@
 -- Running total keeps the law. Assumes nothing.
 use Rattle.std.specs.Prelude.{◌≡◌, ℕ, zero, suc, ◌+◌, ◌-◌, ◌*◌, ◌/◌, ◌<◌, ◌≤◌, max, List, map, length, take, sum, slice_index}
-use Rattle.std.proofs.Common.{take_all, inl, inr, sym, ap, ◌∙◌, add-mul, div-add-mod', div-mul-le_self, mod-lt, mul-div_cancel, mul-zero, zero-mul, arith}
+use Rattle.std.proofs.Common.{take_all, ⊎_elim, sym, ap, ◌∙◌, add-mul, div-add-mod', div-mul-le_self, mod-lt, mul-div_cancel, mul-zero, zero-mul, arith}
 use Rattle.std.proofs.Math.Nat.{div-zero, zero-div}
 use Rattle.std.specs.List.{range_with_len}
 use Rattle.std.proofs.lemmas.Nat.{le-div}
+use Rattle.std.proofs.lemmas.Bool.{cases_lt}
 use Rattle.std.proofs.lemmas.List.FromFn.{sum_by-map-range_with_len_more}
 use Rattle.std.proofs.lemmas.List.Sums.{sum_by_more}
 use Rattle.tariff.specs.Division.{LawfulRule, gap}
 use Rattle.rules.specs.RunningTotal.{reached, running, running_share}
-use Rattle.rules.specs.Accepting.{Claimed, kept, lawful_by, product_more, same_quotient}
+use Rattle.rules.specs.Accepting.{Claimed, claimed, lawful_by, product_more, same_quotient}
 use Rattle.rules.specs.Counts.{by_count}
 
 -- whole parts keep the order
@@ -37,8 +38,11 @@ module _ (T : ℕ) (ws : List ℕ) where
   reached_none = rw (mul-zero T, zero-div (sum ws))
 
   reached_all : Claimed T ws → reached T ws (length ws) ≡ T
-  reached_all (inl e) = rw (e, zero-mul, zero-div)
-  reached_all (inr h) = rw (take_all (length ws) ws (omega arith)) (mul-div_cancel T h)
+  reached_all ok =
+      ⊎_elim
+      (λ (h : 0 < sum ws). rw (take_all (length ws) ws (omega arith)) (mul-div_cancel T h))
+      (λ (h : sum ws ≤ 0). let z : T ≡ 0 = ok (omega arith) in rw (z, zero-mul, zero-div))
+      (cases_lt 0 (sum ws))
 
   -- the shares of the first n places come to what those places have reached
   front_adds : (n : ℕ) → n ≤ length ws → sum (map (running_share T ws) (range_with_len 0 n)) ≡ reached T ws n
@@ -51,5 +55,5 @@ module _ (T : ℕ) (ws : List ℕ) where
 
 pub running_lawful : LawfulRule 12 running
 running_lawful T ws ok =
-    lawful_by (running_share T ws) T ws (front_adds T ws (length ws) (omega arith) ∙ reached_all T ws (kept 12 T ws ok).claimed)
+    lawful_by (running_share T ws) T ws (front_adds T ws (length ws) (omega arith) ∙ reached_all T ws (claimed 12 T ws ok))
     (λ h i l. near_between (T * sum (take i ws)) (T * sum (take (i + 1) ws)) (T * slice_index ws i) (sum ws) h (product_more T ws i l))

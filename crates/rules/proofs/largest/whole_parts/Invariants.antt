@@ -4,6 +4,6 @@ use Rattle.rules.proofs.largest.whole_parts.Given as goal
 
 abbrev pub invariant-loop-i : goal.invariant-loop-i
 invariant-loop-i l =
-    ((k : ℕ) → k < l.i → get_or l.shares k 0 ≡ whole_part l.total l.claims k)
-    × ((k : ℕ) → k < l.i → get_or l.remainders k 0 ≡ remainder l.total l.claims k)
-    × (l.left + sum_to (whole_part l.total l.claims) l.i ≡ l.total)
+    ((k : ℕ) → k < l.i → get_or l.shares k 0 ≡ whole_part l.division.total l.division.claims.now k)
+    × ((k : ℕ) → k < l.i → get_or l.remainders k 0 ≡ remainder l.division.total l.division.claims.now k)
+    × (l.left + sum_to (whole_part l.division.total l.division.claims.now) l.i ≡ l.division.total)
