@@ -1,11 +1,12 @@
 // The claims of a division: when a rule refuses them, and what a division that is admitted keeps.
-ghost use Rattle.std.specs.Prelude.{◌≡◌, ℕ, ◌≤◌, IfOk, max, true, length, slice_index, sum};
+ghost use Rattle.std.specs.Prelude.{◌≡◌, ◌*◌, ◌≤◌, IfOk, max, length, sum};
+ghost use Rattle.rules.specs.declared.claims.TheConstants.{MOST_CLAIM, MOST_PLACES, MOST_TOTAL};
 ghost use Rattle.tariff.specs.Answers.{told};
 ghost use Rattle.tariff.specs.Division.{above_zero, all_within, division_answer};
 
 use tariff::refusal::Refusal;
 
-const MOST_PLACES: usize = 12;
+pub(super) const MOST_PLACES: usize = 12;
 
 const MOST_TOTAL: u64 = 1_000_000_000_000;
 
@@ -14,15 +15,27 @@ const MOST_CLAIM: u64 = 500_000;
 // A total and claims that a rule accepts. Only `admit` makes one.
 #[derive(Clone, Copy)]
 pub(super) struct Admitted<'a> {
-    pub(super) total: u64,
-    pub(super) claims: &'a [u64],
-    ghost few: { length claims.now ≤ 12 },
-    ghost amount: { total ≤ 1000000000000 },
-    ghost within: { sum claims.now ≤ 6000000 },
+    total: u64,
+    claims: &'a [u64],
+    ghost few: { length claims.now ≤ MOST_PLACES },
+    ghost amount: { total ≤ MOST_TOTAL },
+    ghost within: { sum claims.now ≤ MOST_PLACES * MOST_CLAIM },
     ghost claimed: { sum claims.now ≡ 0 → total ≡ 0 },
 }
 
-impl Admitted<'_> {
+impl<'a> Admitted<'a> {
+    pub(super) fn total(&self) -> u64
+        ensures { result ≡ self.now.total }
+    {
+        self.total
+    }
+
+    pub(super) fn claims(&self) -> &'a [u64]
+        ensures { result.now ≡ self.now.claims.now }
+    {
+        self.claims
+    }
+
     // What to divide by: the sum of the claims, or 1 where it is 0. The total is 0 there, and so is each share.
     pub(super) fn divisor(&self) -> u64
         ensures { result ≡ max (sum self.now.claims.now) 1 }

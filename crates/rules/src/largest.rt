@@ -1,15 +1,24 @@
 // Largest remainder: each claim gets its whole part, and the units left go singly to the largest remainders.
-ghost use Rattle.std.specs.Prelude.{◌≡◌, ℕ, ◌+◌, ◌^◌, ◌<◌, ◌==◌, ◌&&◌, ◌||◌, length, nat_lt, slice_index};
+ghost use Rattle.std.specs.Prelude.{◌≡◌, ℕ, ◌+◌, ◌^◌, ◌<◌, ◌==◌, ◌&&◌, ◌||◌, Some, codes, length, nat_lt, slice_index};
 ghost use Rattle.tariff.specs.Division.{Unmoved};
 ghost use Rattle.rules.specs.LargestRemainder.{largest, one_if, rank_of, remainder, units_left, whole_part};
 ghost use Rattle.rules.specs.LargestLaw.{largest_lawful};
 
-use crate::claims::{Admitted, admit};
+use crate::claims::{Admitted, MOST_PLACES, admit};
+use std::fmt;
 use tariff::division::DivisionRule;
 use tariff::refusal::Refusal;
 
-#[derive(Clone, Copy)]
+#[derive(Clone, Copy, Debug, Default, PartialEq, Eq)]
 pub struct LargestRemainder;
+
+impl fmt::Display for LargestRemainder {
+    ghost output = { λ _. Some (codes "largest remainder") };
+
+    fn fmt<W: fmt::Write>(&self, f: &mut fmt::Formatter<W>) -> fmt::Result {
+        write!(f, "largest remainder")
+    }
+}
 
 // Whether a place comes before another: its remainder is larger, or equal and it stands earlier.
 fn is_ahead(place: (usize, u64), other: (usize, u64)) -> bool
@@ -41,10 +50,11 @@ fn whole_parts(division: &Admitted, shares: &mut [u64], remainders: &mut [u64]) 
         → slice_index remainders.new k ≡ remainder division.now.total division.now.claims.now k }
     ensures left { result ≡ units_left division.now.total division.now.claims.now }
 {
+    let total = division.total();
     let all = division.divisor();
-    let mut left = division.total;
-    for (i, claim) in division.claims.iter().enumerate() {
-        let due = division.total * *claim;
+    let mut left = total;
+    for (i, claim) in division.claims().iter().enumerate() {
+        let due = total * *claim;
         let whole = due / all;
         shares[i] = whole;
         remainders[i] = due % all;
@@ -72,8 +82,8 @@ fn share(division: &Admitted, shares: &mut [u64])
     requires { length shares.old ≡ length division.now.claims.now }
     ensures { shares.new ≡ largest division.now.total division.now.claims.now }
 {
-    let mut row = [0; 12];
-    let remainders = &mut row[..division.claims.len()];
+    let mut row = [0; MOST_PLACES];
+    let remainders = &mut row[..shares.len()];
     let left = whole_parts(division, shares, remainders);
     give_units(left, remainders, shares);
 }

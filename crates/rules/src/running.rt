@@ -1,27 +1,37 @@
 // Running total: a share is what the claims up to this one have reached, less what those before it had.
-ghost use Rattle.std.specs.Prelude.{◌≡◌, length};
+ghost use Rattle.std.specs.Prelude.{◌≡◌, Some, codes, length};
 ghost use Rattle.tariff.specs.Division.{Unmoved};
 ghost use Rattle.rules.specs.RunningTotal.{running};
 ghost use Rattle.rules.specs.RunningLaw.{running_lawful};
 
 use crate::claims::{Admitted, admit};
+use std::fmt;
 use tariff::division::DivisionRule;
 use tariff::refusal::Refusal;
 
-#[derive(Clone, Copy)]
+#[derive(Clone, Copy, Debug, Default, PartialEq, Eq)]
 pub struct RunningTotal;
+
+impl fmt::Display for RunningTotal {
+    ghost output = { λ _. Some (codes "running total") };
+
+    fn fmt<W: fmt::Write>(&self, f: &mut fmt::Formatter<W>) -> fmt::Result {
+        write!(f, "running total")
+    }
+}
 
 // Writes the shares of a division.
 fn share(division: &Admitted, shares: &mut [u64])
     requires { length shares.old ≡ length division.now.claims.now }
     ensures { shares.new ≡ running division.now.total division.now.claims.now }
 {
+    let total = division.total();
     let all = division.divisor();
     let mut claimed = 0;
     let mut given = 0;
-    for (i, claim) in division.claims.iter().enumerate() {
+    for (i, claim) in division.claims().iter().enumerate() {
         claimed += *claim;
-        let reached = division.total * claimed / all;
+        let reached = total * claimed / all;
         shares[i] = reached - given;
         given = reached;
     }
