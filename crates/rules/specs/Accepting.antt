@@ -16,50 +16,12 @@ Claimed total claims = sum claims ≡ 0 → total ≡ 0
 pub claimed : (most total : ℕ) (claims : List ℕ) → Accepted most total claims → Claimed total claims
 claimed most total claims ok h = grind (arith, nat_tests)
 
-count_by_yes : (w : ℕ) (ws : List ℕ) → 0 < w → 0 < above_zero (w ∷ ws)
-count_by_yes w ws h =
-    let e = sum_by-cons (λ x. cond (nat_lt 0 x) 1 0) w ws in
-    let t = lt-ltb 0 w h in
-    grind (arith, nat_tests)
-
--- the claims above 0 are as many as make their sum above 0
-pub none_above : (claims : List ℕ) → above_zero claims ≡ 0 → sum claims ≡ 0
-none_above [] h = refl
-none_above (w ∷ ws) h =
-    ⊎_elim
-    (λ (l : 0 < w). absurd (omega (arith, count_by_yes w ws l)))
-    (λ (z : w ≤ 0). omega (arith, sum_by-cons (λ x. x) w ws, none_above ws (omega (arith, sum_by-cons (λ x. cond (nat_lt 0 x) 1 0) w ws))))
-    (cases_lt 0 w)
-
-pub some_above : (claims : List ℕ) → above_zero claims ≤ sum claims
-some_above claims = sum_by-le-sum_by _ _ claims (λ w. grind (arith, nat_tests))
-
 -- claims within their limit
 pub sum_within : (claims : List ℕ) → all_within claims ≡ true → sum claims ≤ 500000 * length claims
 sum_within [] h = omega arith
 sum_within (w ∷ ws) h =
     let both = and_parts (nat_le w 500000) (all_within ws) h in
     omega (arith, sum_by-cons (λ x. x) w ws, leb-true w 500000 both.0, sum_within ws both.1)
-
--- the total times some of the claims
-pub product_fits : (total part : ℕ) → total ≤ 1000000000000 → part ≤ 6000000 → total * part < 2 ^ 64
-product_fits total part h k = let m : total * part ≤ 1000000000000 * 6000000 = mul-le-mul h k in omega arith
-
--- where the claims come to 0, dividing by 1 comes to the same as dividing by their sum: the total is 0
-module _ (total part all : ℕ) (claims : List ℕ) (e : all ≡ max (sum claims) 1) (ok : Claimed total claims) where
-  pub same_quotient : total * part / all ≡ total * part / sum claims
-  same_quotient =
-      ⊎_elim
-      (λ (h : 0 < sum claims). ap (λ n. total * part / n) (e ∙ max-eq_left h))
-      (λ (h : sum claims ≤ 0). let z : total ≡ 0 = ok (omega arith) in rw (z, zero-mul) (zero-div all ∙ sym (zero-div (sum claims))))
-      (cases_lt 0 (sum claims))
-
-  pub same_remainder : total * part % all ≡ total * part % sum claims
-  same_remainder =
-      ⊎_elim
-      (λ (h : 0 < sum claims). ap (λ n. total * part % n) (e ∙ max-eq_left h))
-      (λ (h : sum claims ≤ 0). let z : total ≡ 0 = ok (omega arith) in rw (z, zero-mul) (zero-mod all ∙ sym (zero-mod (sum claims))))
-      (cases_lt 0 (sum claims))
 
 -- one claim more, times the total
 pub product_more : (total : ℕ) (claims : List ℕ) (i : ℕ) → i < length claims →

@@ -9,7 +9,7 @@ use Rattle.std.proofs.lemmas.List.FromFn.{sum_by-map-range_with_len_more}
 use Rattle.std.proofs.lemmas.List.Sums.{sum_by_more}
 use Rattle.tariff.specs.Division.{LawfulRule, gap}
 use Rattle.rules.specs.RunningTotal.{reached, running, running_share}
-use Rattle.rules.specs.Accepting.{Claimed, claimed, lawful_by, product_more, same_quotient}
+use Rattle.rules.specs.Accepting.{Claimed, claimed, lawful_by, product_more}
 use Rattle.rules.specs.Counts.{by_count}
 
 -- whole parts keep the order
@@ -27,12 +27,6 @@ near_between a b c W h e =
 module _ (T : ℕ) (ws : List ℕ) where
   pub reached_mono : (i : ℕ) → i < length ws → reached T ws i ≤ reached T ws (i + 1)
   reached_mono i h = div_mono _ _ (sum ws) (omega (arith, product_more T ws i h))
-
-  -- what one claim more reaches, as the code reckons it
-  pub reached_more : (all claimed i : ℕ) → all ≡ max (sum ws) 1 → Claimed T ws → claimed ≡ sum (take i ws) → i < length ws →
-      T * (claimed + slice_index ws i) / all ≡ reached T ws (i + 1)
-  reached_more all claimed i e ok f h =
-      ap (λ n. T * n / all) (omega (arith, sum_by_more (λ x. x) ws i 0 h)) ∙ same_quotient T (sum (take (i + 1) ws)) all ws e ok
 
   reached_none : reached T ws 0 ≡ 0
   reached_none = rw (mul-zero T, zero-div (sum ws))

@@ -1,5 +1,5 @@
 // The claims of a division: when a rule refuses them, and what a division that is admitted keeps.
-ghost use Rattle.std.specs.Prelude.{◌≡◌, ◌*◌, ◌≤◌, IfOk, max, length, sum};
+ghost use Rattle.std.specs.Prelude.{◌≡◌, ◌*◌, ◌/◌, ◌%◌, ◌^◌, ◌<◌, ◌≤◌, IfOk, length, sum};
 ghost use Rattle.rules.specs.declared.claims.TheConstants.{MOST_CLAIM, MOST_PLACES, MOST_TOTAL};
 ghost use Rattle.tariff.specs.Answers.{told};
 ghost use Rattle.tariff.specs.Division.{above_zero, all_within, division_answer};
@@ -12,15 +12,17 @@ const MOST_TOTAL: u64 = 1_000_000_000_000;
 
 const MOST_CLAIM: u64 = 500_000;
 
-// A total and claims that a rule accepts. Only `admit` makes one.
+// A total and claims that a rule accepts, and what the claims come to. Only `admit` makes one.
 #[derive(Clone, Copy)]
 pub(super) struct Admitted<'a> {
     total: u64,
     claims: &'a [u64],
+    all: u64,
     ghost few: { length claims.now ≤ MOST_PLACES },
     ghost amount: { total ≤ MOST_TOTAL },
-    ghost within: { sum claims.now ≤ MOST_PLACES * MOST_CLAIM },
-    ghost claimed: { sum claims.now ≡ 0 → total ≡ 0 },
+    ghost summed: { all ≡ sum claims.now },
+    ghost within: { all ≤ MOST_PLACES * MOST_CLAIM },
+    ghost claimed: { all ≡ 0 → total ≡ 0 },
 }
 
 impl<'a> Admitted<'a> {
@@ -36,11 +38,20 @@ impl<'a> Admitted<'a> {
         self.claims
     }
 
-    // What to divide by: the sum of the claims, or 1 where it is 0. The total is 0 there, and so is each share.
-    pub(super) fn divisor(&self) -> u64
-        ensures { result ≡ max (sum self.now.claims.now) 1 }
+    // The whole part of total × part / (all claims). Where the claims come to 0, so does the total.
+    pub(super) fn whole(&self, part: u64) -> u64
+        requires { part ≤ sum self.now.claims.now }
+        ensures { result ≡ self.now.total * part / sum self.now.claims.now }
     {
-        self.claims.iter().sum::<u64>().max(1)
+        self.total * part / self.all.max(1)
+    }
+
+    // Its remainder.
+    pub(super) fn rest(&self, part: u64) -> u64
+        requires { part ≤ sum self.now.claims.now }
+        ensures { result ≡ self.now.total * part % sum self.now.claims.now }
+    {
+        self.total * part % self.all.max(1)
     }
 }
 
@@ -51,6 +62,14 @@ fn all_within(claims: &[u64]) -> bool
     claims.iter().all(|claim| *claim <= MOST_CLAIM)
 }
 
+// What the claims come to.
+fn total_of(claims: &[u64]) -> u64
+    requires { sum claims.now < 2 ^ 64 }
+    ensures { result ≡ sum claims.now }
+{
+    claims.iter().sum()
+}
+
 // How many claims are above 0.
 fn above_zero(claims: &[u64]) -> u64
     ensures { result ≡ above_zero claims.now }
@@ -59,6 +78,7 @@ fn above_zero(claims: &[u64]) -> u64
 }
 
 // Tests whether a rule that takes `most` claims above 0 divides `total` among `claims` into so many places.
+#[tactic(auto, using(crate::specs::Accepting::sum_within))]
 pub(super) fn admit<'a>(
     most: u64,
     total: u64,
@@ -75,12 +95,13 @@ pub(super) fn admit<'a>(
     if total > MOST_TOTAL || !all_within(claims) {
         return Err(Refusal::DivisionFigure);
     }
-    let count = above_zero(claims);
-    if total > 0 && count == 0 {
+    let all = total_of(claims);
+    if total > 0 && all == 0 {
         return Err(Refusal::NoClaims);
     }
+    let count = above_zero(claims);
     if count > most {
         return Err(Refusal::TooManyClaims { count, limit: most });
     }
-    Ok(Admitted { total, claims })
+    Ok(Admitted { total, claims, all })
 }

@@ -50,14 +50,11 @@ fn whole_parts(division: &Admitted, shares: &mut [u64], remainders: &mut [u64]) 
         → slice_index remainders.new k ≡ remainder division.now.total division.now.claims.now k }
     ensures left { result ≡ units_left division.now.total division.now.claims.now }
 {
-    let total = division.total();
-    let all = division.divisor();
-    let mut left = total;
+    let mut left = division.total();
     for (i, claim) in division.claims().iter().enumerate() {
-        let due = total * *claim;
-        let whole = due / all;
+        let whole = division.whole(*claim);
         shares[i] = whole;
-        remainders[i] = due % all;
+        remainders[i] = division.rest(*claim);
         left -= whole;
     }
     left

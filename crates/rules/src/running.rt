@@ -25,13 +25,11 @@ fn share(division: &Admitted, shares: &mut [u64])
     requires { length shares.old ≡ length division.now.claims.now }
     ensures { shares.new ≡ running division.now.total division.now.claims.now }
 {
-    let total = division.total();
-    let all = division.divisor();
     let mut claimed = 0;
     let mut given = 0;
     for (i, claim) in division.claims().iter().enumerate() {
         claimed += *claim;
-        let reached = total * claimed / all;
+        let reached = division.whole(claimed);
         shares[i] = reached - given;
         given = reached;
     }
