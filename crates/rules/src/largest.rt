@@ -1,5 +1,5 @@
 // Largest remainder: each claim gets its whole part, and the units left go singly to the largest remainders.
-ghost use Rattle.std.specs.Prelude.{◌≡◌, ℕ, ◌+◌, ◌^◌, ◌<◌, ◌==◌, ◌&&◌, ◌||◌, Some, codes, length, nat_lt, slice_index};
+ghost use Rattle.std.specs.Prelude.{◌≡◌, ℕ, ◌+◌, ◌^◌, ◌<◌, Some, codes, length, nat_lt, slice_index};
 ghost use Rattle.tariff.specs.Division.{Unmoved};
 ghost use Rattle.rules.specs.LargestRemainder.{largest, one_if, rank_of, remainder, units_left, whole_part};
 ghost use Rattle.rules.specs.LargestLaw.{largest_lawful};
@@ -20,23 +20,16 @@ impl fmt::Display for LargestRemainder {
     }
 }
 
-// Whether a place comes before another: its remainder is larger, or equal and it stands earlier.
-fn is_ahead(place: (usize, u64), other: (usize, u64)) -> bool
-    ensures { result ≡ (nat_lt other.1 place.1 || (other.1 == place.1 && nat_lt place.0 other.0)) }
-{
-    other.1 < place.1 || (other.1 == place.1 && place.0 < other.0)
-}
-
-// How many places come before place i.
+// How many places come before place i: their remainder is larger, or equal and they stand earlier.
 fn rank(remainders: &[u64], i: usize) -> u64
     requires { i < length remainders.now }
     ensures { result ≡ rank_of (λ k. slice_index remainders.now k) (length remainders.now) i }
 {
-    let own = (i, remainders[i]);
+    let own = remainders[i];
     remainders
         .iter()
         .enumerate()
-        .filter(|&(j, &other)| is_ahead((j, other), own))
+        .filter(|&(j, &other)| own < other || (own == other && j < i))
         .count() as u64
 }
 

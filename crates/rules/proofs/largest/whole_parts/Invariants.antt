@@ -9,5 +9,5 @@ invariant-loop-i l =
     record {
       wholes : (k : ℕ) → k < l.i → get_or l.shares k 0 ≡ whole_part total claims k;
       rests : (k : ℕ) → k < l.i → get_or l.remainders k 0 ≡ remainder total claims k;
-      left : l.left + sum_to (whole_part total claims) l.i ≡ total
+      left : l.left + sum_to (whole_part total claims) l.i ≡ total;
     }
