@@ -1,13 +1,12 @@
 -- What an accepted division keeps, that its numbers fit 64 bits, and the law for shares told by place. Assumes nothing.
-use Rattle.std.specs.Prelude.{◌≡◌, ℕ, cond, nat_le, nat_lt, ◌+◌, ◌*◌, ◌/◌, ◌%◌, ◌^◌, ◌<◌, ◌≤◌, max, true, List, [], ◌∷◌, map, length, take, sum, slice_index, refl}
-use Rattle.std.proofs.Common.{⊎_elim, sym, ap, ◌∙◌, mul-add, mul-le-mul, zero-mul, arith}
-use Rattle.std.proofs.Math.Nat.{max-eq_left, zero-div, zero-mod}
+use Rattle.std.specs.Prelude.{◌≡◌, ℕ, nat_le, ◌+◌, ◌*◌, ◌<◌, ◌≤◌, true, List, [], ◌∷◌, map, length, take, sum, slice_index}
+use Rattle.std.proofs.Common.{ap, ◌∙◌, mul-add, arith}
 use Rattle.std.specs.List.{range_with_len}
 use Rattle.std.proofs.lemmas.List.FromFn.{get_or-map-range_with_len, length-map-range_with_len}
-use Rattle.std.proofs.lemmas.List.Sums.{get_or-le-sum_by, sum_by-cons, sum_by-le-sum_by, sum_by_more}
-use Rattle.std.proofs.lemmas.Bool.{and_parts, cases_lt, leb-true, lt-ltb}
+use Rattle.std.proofs.lemmas.List.Sums.{get_or-le-sum_by, sum_by-cons, sum_by_more}
+use Rattle.std.proofs.lemmas.Bool.{and_parts, leb-true}
 use Rattle.std.proofs.lemmas.Bool.Decides.{nat_tests}
-use Rattle.tariff.specs.Division.{Accepted, Lawful, above_zero, all_within, gap}
+use Rattle.tariff.specs.Division.{Accepted, Lawful, all_within, gap}
 
 -- nothing to divide where the claims come to 0
 abbrev pub Claimed : ℕ → List ℕ → Type 0

@@ -1,12 +1,11 @@
 -- Running total keeps the law. Assumes nothing.
-use Rattle.std.specs.Prelude.{◌≡◌, ℕ, zero, suc, ◌+◌, ◌-◌, ◌*◌, ◌/◌, ◌<◌, ◌≤◌, max, List, map, length, take, sum, slice_index}
+use Rattle.std.specs.Prelude.{◌≡◌, ℕ, zero, suc, ◌+◌, ◌-◌, ◌*◌, ◌/◌, ◌<◌, ◌≤◌, List, map, length, take, sum, slice_index}
 use Rattle.std.proofs.Common.{take_all, ⊎_elim, sym, ap, ◌∙◌, add-mul, div-add-mod', div-mul-le_self, mod-lt, mul-div_cancel, mul-zero, zero-mul, arith}
 use Rattle.std.proofs.Math.Nat.{div-zero, zero-div}
 use Rattle.std.specs.List.{range_with_len}
 use Rattle.std.proofs.lemmas.Nat.{le-div}
 use Rattle.std.proofs.lemmas.Bool.{cases_lt}
 use Rattle.std.proofs.lemmas.List.FromFn.{sum_by-map-range_with_len_more}
-use Rattle.std.proofs.lemmas.List.Sums.{sum_by_more}
 use Rattle.tariff.specs.Division.{LawfulRule, gap}
 use Rattle.rules.specs.RunningTotal.{reached, running, running_share}
 use Rattle.rules.specs.Accepting.{Claimed, claimed, lawful_by, product_more}

@@ -1,7 +1,7 @@
 // Largest remainder: each claim gets its whole part, and the units left go singly to the largest remainders.
-ghost use Rattle.std.specs.Prelude.{◌≡◌, ℕ, ◌+◌, ◌^◌, ◌<◌, Some, codes, length, nat_lt, slice_index};
+ghost use Rattle.std.specs.Prelude.{◌≡◌, ℕ, ◌+◌, ◌^◌, ◌<◌, Some, codes, if◌then◌else◌, length, nat_lt, slice_index};
 ghost use Rattle.tariff.specs.Division.{Unmoved};
-ghost use Rattle.rules.specs.LargestRemainder.{largest, one_if, rank_of, remainder, units_left, whole_part};
+ghost use Rattle.rules.specs.LargestRemainder.{largest, rank_of, remainder, units_left, whole_part};
 ghost use Rattle.rules.specs.LargestLaw.{largest_lawful};
 
 use crate::claims::{Admitted, MOST_PLACES, admit};
@@ -58,7 +58,7 @@ fn give_units(units: u64, remainders: &[u64], shares: &mut [u64])
     requires places { length shares.old ≡ length remainders.now }
     requires room { (k : ℕ) → k < length shares.old → slice_index shares.old k + 1 < 2 ^ 64 }
     ensures { (k : ℕ) → k < length remainders.now → slice_index shares.new k ≡ slice_index shares.old k
-        + one_if (nat_lt (rank_of (λ j. slice_index remainders.now j) (length remainders.now) k) units) }
+        + (if nat_lt (rank_of (λ j. slice_index remainders.now j) (length remainders.now) k) units then 1 else 0) }
 {
     for (i, share) in shares.iter_mut().enumerate() {
         if rank(remainders, i) < units {

@@ -1,7 +1,7 @@
 use Rattle.std.proofs.Common.{◌<◌, length, ap, arith}
 use Rattle.std.proofs.lemmas.List.Edits.{fill_by_more}
 use Rattle.rules.specs.LargestRemainder.{remainder, whole_part}
-use Rattle.rules.specs.Counts.{sum_to_more}
+use Rattle.rules.specs.Counts.{sum_more}
 use Rattle.rules.specs.LargestLaw.{whole_within}
 use Rattle.rules.proofs.largest.whole_parts.Goals as goal
 
@@ -18,5 +18,5 @@ loop-i-preserved c =
     record {
       wholes = rw (c.whole-whole.ensures, c.claims-claim-items.ensures) (fill_by_more (whole_part d.total d.claims.now) c.loop-i.shares i 0 (omega arith) c.loop-i.invariant.wholes);
       rests = rw (c.rest.ensures, c.claims-claim-items.ensures) (fill_by_more (remainder d.total d.claims.now) c.loop-i.remainders i 0 (omega arith) c.loop-i.invariant.rests);
-      left = grind (arith, sum_to_more, whole_within);
+      left = grind (arith, sum_more, whole_within);
     }
