@@ -38,20 +38,20 @@ impl<'a> Admitted<'a> {
         self.claims
     }
 
-    // The whole part of total × part / (all claims). Where the claims come to 0, so does the total.
-    pub(super) fn whole(&self, part: u64) -> u64
-        requires { part ≤ sum self.now.claims.now }
-        ensures { result ≡ self.now.total * part / sum self.now.claims.now }
+    // The whole part of total × claimed / (all claims). Where all claims come to 0, so does the total.
+    pub(super) fn whole_part(&self, claimed: u64) -> u64
+        requires { claimed ≤ sum self.now.claims.now }
+        ensures { result ≡ self.now.total * claimed / sum self.now.claims.now }
     {
-        self.total * part / self.all.max(1)
+        self.total * claimed / self.all.max(1)
     }
 
     // Its remainder.
-    pub(super) fn rest(&self, part: u64) -> u64
-        requires { part ≤ sum self.now.claims.now }
-        ensures { result ≡ self.now.total * part % sum self.now.claims.now }
+    pub(super) fn remainder(&self, claimed: u64) -> u64
+        requires { claimed ≤ sum self.now.claims.now }
+        ensures { result ≡ self.now.total * claimed % sum self.now.claims.now }
     {
-        self.total * part % self.all.max(1)
+        self.total * claimed % self.all.max(1)
     }
 }
 

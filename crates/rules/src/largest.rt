@@ -45,9 +45,9 @@ fn whole_parts(division: &Admitted, shares: &mut [u64], remainders: &mut [u64]) 
 {
     let mut left = division.total();
     for (i, claim) in division.claims().iter().enumerate() {
-        let whole = division.whole(*claim);
+        let whole = division.whole_part(*claim);
         shares[i] = whole;
-        remainders[i] = division.rest(*claim);
+        remainders[i] = division.remainder(*claim);
         left -= whole;
     }
     left

@@ -29,7 +29,7 @@ fn share(division: &Admitted, shares: &mut [u64])
     let mut given = 0;
     for (i, claim) in division.claims().iter().enumerate() {
         claimed += *claim;
-        let reached = division.whole(claimed);
+        let reached = division.whole_part(claimed);
         shares[i] = reached - given;
         given = reached;
     }

@@ -6,9 +6,7 @@ use Rattle.rules.specs.LargestLaw.{whole_within}
 use Rattle.rules.proofs.largest.whole_parts.Goals as goal
 
 pub overflow_sub-left : goal.overflow_sub-left
-overflow_sub-left c =
-    let l : c.loop-i.i < length c.args.division.now.claims.now = omega (arith, ap length c.claims-claim-items.ensures) in
-    grind (arith, whole_within)
+overflow_sub-left c = grind (arith, whole_within)
 
 pub loop-i-preserved : goal.loop-i-preserved
 loop-i-preserved c =
@@ -16,7 +14,7 @@ loop-i-preserved c =
     let i = c.loop-i.i in
     let l : i < length d.claims.now = omega (arith, ap length c.claims-claim-items.ensures) in
     record {
-      wholes = rw (c.whole-whole.ensures, c.claims-claim-items.ensures) (fill_by_more (whole_part d.total d.claims.now) c.loop-i.shares i 0 (omega arith) c.loop-i.invariant.wholes);
-      rests = rw (c.rest.ensures, c.claims-claim-items.ensures) (fill_by_more (remainder d.total d.claims.now) c.loop-i.remainders i 0 (omega arith) c.loop-i.invariant.rests);
+      wholes = rw (c.whole_part-whole.ensures, c.claims-claim-items.ensures) (fill_by_more (whole_part d.total d.claims.now) c.loop-i.shares i 0 (omega arith) c.loop-i.invariant.wholes);
+      rests = rw (c.remainder.ensures, c.claims-claim-items.ensures) (fill_by_more (remainder d.total d.claims.now) c.loop-i.remainders i 0 (omega arith) c.loop-i.invariant.rests);
       left = grind (arith, sum_more, whole_within);
     }
