@@ -1,10 +1,10 @@
--- What an accepted division keeps, that its numbers fit 64 bits, and the law for shares told by place. Assumes nothing.
-use Rattle.std.specs.Prelude.{◌≡◌, ℕ, nat_le, ◌+◌, ◌*◌, ◌<◌, ◌≤◌, true, List, [], ◌∷◌, map, length, take, sum, slice_index}
-use Rattle.std.proofs.Common.{ap, ◌∙◌, mul-add, arith}
+-- What an accepted division keeps, what claims within their limit come to, and the law for shares told by place. Assumes nothing.
+use Rattle.std.specs.Prelude.{◌≡◌, ℕ, nat_le, ◌+◌, ◌*◌, ◌<◌, ◌≤◌, true, ◌⊎◌, List, [], ◌∷◌, map, length, take, sum, slice_index}
+use Rattle.std.proofs.Common.{inl, inr, ⊎_elim, ap, ◌∙◌, mul-add, arith}
 use Rattle.std.specs.List.{range_with_len}
 use Rattle.std.proofs.lemmas.List.FromFn.{get_or-map-range_with_len, length-map-range_with_len}
 use Rattle.std.proofs.lemmas.List.Sums.{get_or-le-sum_by, sum_by-cons, sum_by_more}
-use Rattle.std.proofs.lemmas.Bool.{and_parts, leb-true}
+use Rattle.std.proofs.lemmas.Bool.{and_parts, cases_lt, leb-true}
 use Rattle.std.proofs.lemmas.Bool.Decides.{nat_tests}
 use Rattle.tariff.specs.Division.{Accepted, Lawful, all_within, gap}
 
@@ -14,6 +14,9 @@ Claimed total claims = sum claims ≡ 0 → total ≡ 0
 
 pub claimed : (most total : ℕ) (claims : List ℕ) → Accepted most total claims → Claimed total claims
 claimed most total claims ok h = grind (arith, nat_tests)
+
+pub claimed_or_none : (total : ℕ) (claims : List ℕ) → Claimed total claims → (0 < sum claims) ⊎ (total ≡ 0)
+claimed_or_none total claims ok = ⊎_elim inl (λ (h : sum claims ≤ 0). inr (ok (omega arith))) (cases_lt 0 (sum claims))
 
 -- claims within their limit
 pub sum_within : (claims : List ℕ) → all_within claims ≡ true → sum claims ≤ 500000 * length claims

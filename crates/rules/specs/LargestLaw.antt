@@ -8,7 +8,7 @@ use Rattle.std.proofs.lemmas.Bool.{cases_lt, lt-ltb, ltb-true}
 use Rattle.std.proofs.lemmas.Bool.Decides.{nat_tests}
 use Rattle.tariff.specs.Division.{LawfulRule, gap}
 use Rattle.rules.specs.LargestRemainder.{ahead, largest, largest_share, rank_of, remainder, units_left, whole_part}
-use Rattle.rules.specs.Accepting.{Claimed, claimed, lawful_by, product_more}
+use Rattle.rules.specs.Accepting.{Claimed, claimed, claimed_or_none, lawful_by, product_more}
 use Rattle.rules.specs.Counts.{by_count, count_le, count_within, one_if, sum_add, sum_front, sum_more, sum_none, sum_scale}
 use Rattle.rules.specs.Ranks.{ranked}
 
@@ -48,8 +48,8 @@ module _ (T : ℕ) (ws : List ℕ) where
   wholes_le ok =
       ⊎_elim
       (λ (h : 0 < sum ws). le_of_mul-le-mul_right (omega (arith, all_parts)) h)
-      (λ (h : sum ws ≤ 0). let z : T ≡ 0 = ok (omega arith) in omega (arith, sum_none (whole_part T ws) (range_with_len 0 (length ws)) (λ i. rw (z, zero-mul, zero-div))))
-      (cases_lt 0 (sum ws))
+      (λ (z : T ≡ 0). omega (arith, sum_none (whole_part T ws) (range_with_len 0 (length ws)) (λ i. rw (z, zero-mul, zero-div))))
+      (claimed_or_none T ws ok)
 
   -- a whole part is at most what the ones before it leave
   pub whole_within : Claimed T ws → (i : ℕ) → i < length ws → wholes i + whole_part T ws i ≤ T
@@ -67,8 +67,8 @@ module _ (T : ℕ) (ws : List ℕ) where
       let split = add-mul (units_left T ws) (wholes n) (sum ws) in
       let back : (units_left T ws + wholes n) * sum ws ≡ T * sum ws = ap (λ n. n * sum ws) (omega (arith, wholes_le ok)) in
       le_of_mul-le-mul_right (omega (arith, all_parts, sum_scale units (sum ws) (range_with_len 0 n))) h)
-      (λ (h : sum ws ≤ 0). let z : T ≡ 0 = ok (omega arith) in omega arith)
-      (cases_lt 0 (sum ws))
+      (λ (z : T ≡ 0). omega arith)
+      (claimed_or_none T ws ok)
 
   -- a unit goes to a remainder above 0 alone
   served_above : Claimed T ws → (i : ℕ) → rank_of (remainder T ws) (length ws) i < units_left T ws → 0 < remainder T ws i

@@ -4,11 +4,10 @@ use Rattle.std.proofs.Common.{take_all, ⊎_elim, sym, ap, ◌∙◌, add-mul, d
 use Rattle.std.proofs.Math.Nat.{div-zero, zero-div}
 use Rattle.std.specs.List.{range_with_len}
 use Rattle.std.proofs.lemmas.Nat.{le-div}
-use Rattle.std.proofs.lemmas.Bool.{cases_lt}
 use Rattle.std.proofs.lemmas.List.FromFn.{sum_by-map-range_with_len_more}
 use Rattle.tariff.specs.Division.{LawfulRule, gap}
 use Rattle.rules.specs.RunningTotal.{reached, running, running_share}
-use Rattle.rules.specs.Accepting.{Claimed, claimed, lawful_by, product_more}
+use Rattle.rules.specs.Accepting.{Claimed, claimed, claimed_or_none, lawful_by, product_more}
 use Rattle.rules.specs.Counts.{by_count}
 
 -- whole parts keep the order
@@ -34,8 +33,8 @@ module _ (T : ℕ) (ws : List ℕ) where
   reached_all ok =
       ⊎_elim
       (λ (h : 0 < sum ws). rw (take_all (length ws) ws (omega arith)) (mul-div_cancel T h))
-      (λ (h : sum ws ≤ 0). let z : T ≡ 0 = ok (omega arith) in rw (z, zero-mul, zero-div))
-      (cases_lt 0 (sum ws))
+      (λ (z : T ≡ 0). rw (z, zero-mul, zero-div))
+      (claimed_or_none T ws ok)
 
   -- the shares of the first n places come to what those places have reached
   front_adds : (n : ℕ) → n ≤ length ws → sum (map (running_share T ws) (range_with_len 0 n)) ≡ reached T ws n
