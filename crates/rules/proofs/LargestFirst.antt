@@ -3,7 +3,8 @@ use Rattle.std.proofs.Common.{◌≡◌, ℕ, ◌+◌, ◌<◌, ◌≤◌, Bool,
 use Rattle.std.proofs.lemmas.List.FromFn.{get_or-map-range_with_len}
 use Rattle.std.proofs.lemmas.Bool.{cases_Bool}
 use Rattle.std.proofs.lemmas.Bool.Decides.{nat_tests}
-use Rattle.rules.specs.LargestRemainder.{LargestFirst, UnitsToLargest, ahead, largest, largest_share, one_if, rank_of, remainder, units_left, whole_part}
+use Rattle.rules.specs.LargestRemainder.{LargestFirst, UnitsToLargest, ahead, largest, largest_share, rank_of, remainder, units_left, whole_part}
+use Rattle.rules.specs.Counts.{one_if}
 use Rattle.rules.specs.Ranks.{rank_less}
 
 -- of two places, one that has the lower rank comes before the other

@@ -1,20 +1,7 @@
 -- Largest remainder. Assumes nothing.
-use Rattle.std.specs.Prelude.{◌≡◌, ℕ, zero, suc, ◌+◌, ◌-◌, ◌*◌, ◌/◌, ◌%◌, ◌<◌, Bool, true, false, ◌&&◌, ◌||◌, ◌⊎◌, List, map, length, sum, ◌==◌, nat_lt, slice_index}
+use Rattle.std.specs.Prelude.{◌≡◌, ℕ, ◌+◌, ◌-◌, ◌*◌, ◌/◌, ◌%◌, ◌<◌, Bool, if◌then◌else◌, ◌&&◌, ◌||◌, ◌⊎◌, List, map, length, sum, sum_by, count_by, ◌==◌, nat_lt, slice_index}
 use Rattle.std.specs.List.{range_with_len}
 use Rattle.tariff.specs.Division.{Division}
-
--- f 0 + f 1 + .. + f (n - 1)
-abbrev pub sum_to : (ℕ → ℕ) → ℕ → ℕ
-sum_to f zero = 0
-sum_to f (suc n) = sum_to f n + f n
-
-abbrev pub one_if : Bool → ℕ
-one_if true = 1
-one_if false = 0
-
--- how many of the first n places pass a test
-abbrev pub count_to : (ℕ → Bool) → ℕ → ℕ
-count_to test n = sum_to (λ i. one_if (test i)) n
 
 -- the whole part of total × claim / (all claims) at place i
 abbrev pub whole_part : ℕ → List ℕ → ℕ → ℕ
@@ -26,7 +13,7 @@ remainder total claims i = total * slice_index claims i % sum claims
 
 -- the units that the whole parts leave
 abbrev pub units_left : ℕ → List ℕ → ℕ
-units_left total claims = total - sum_to (whole_part total claims) (length claims)
+units_left total claims = total - sum_by (whole_part total claims) (range_with_len 0 (length claims))
 
 -- place j comes before place i: its key is larger, or equal and it stands earlier
 abbrev pub ahead : (ℕ → ℕ) → ℕ → ℕ → Bool
@@ -34,11 +21,11 @@ ahead key i j = nat_lt (key i) (key j) || (key i == key j && nat_lt j i)
 
 -- how many of the first n places come before place i
 abbrev pub rank_of : (ℕ → ℕ) → ℕ → ℕ → ℕ
-rank_of key n i = count_to (ahead key i) n
+rank_of key n i = count_by (ahead key i) (range_with_len 0 n)
 
 -- the whole part, and a unit more where fewer places come before this one by a key than there are units left
 abbrev pub keyed_share : (ℕ → ℕ) → ℕ → List ℕ → ℕ → ℕ
-keyed_share key total claims i = whole_part total claims i + one_if (nat_lt (rank_of key (length claims) i) (units_left total claims))
+keyed_share key total claims i = whole_part total claims i + (if nat_lt (rank_of key (length claims) i) (units_left total claims) then 1 else 0)
 
 -- the units left go to the largest remainders
 abbrev pub largest_share : ℕ → List ℕ → ℕ → ℕ

@@ -1,14 +1,28 @@
 -- The ranks of n places by a key are 0 to n - 1, each once: k places have a rank below k. Assumes nothing.
-use Rattle.std.specs.Prelude.{◌≡◌, ℕ, ◌+◌, ◌-◌, ◌<◌, ◌≤◌, true, false, ◌⊎◌, nat_lt}
-use Rattle.std.proofs.Common.{inl, inr, ⊎_elim, ap, arith}
+use Rattle.std.specs.Prelude.{◌≡◌, ℕ, ◌+◌, ◌-◌, ◌<◌, ◌≤◌, true, false, ◌&&◌, ◌||◌, ◌==◌, ◌⊎◌, List, map, length, count_by, nat_lt, slice_index}
+use Rattle.std.specs.List.{enumerate_from, range_with_len}
+use Rattle.std.proofs.Common.{inl, inr, ⊎_elim, ap, ◌∙◌, zero-add, arith}
+use Rattle.std.proofs.lemmas.List.FromFn.{fill_by_all, get_or-enumerate_from, length-enumerate_from}
+use Rattle.std.proofs.lemmas.List.Folds.{fold-map}
 use Rattle.std.proofs.lemmas.Bool.{cases_Bool, cases_lt}
 use Rattle.std.proofs.lemmas.Bool.Decides.{nat_tests}
-use Rattle.rules.specs.LargestRemainder.{ahead, count_to, one_if, rank_of}
-use Rattle.rules.specs.Counts.{by_count, count_le, count_less, count_more, count_same, count_within}
+use Rattle.rules.specs.LargestRemainder.{ahead, rank_of}
+use Rattle.rules.specs.Counts.{by_count, count_le, count_less, count_more, count_same, count_within, one_if}
 
 -- keys that agree on the places give the same ranks
 pub rank_same : (r s : ℕ → ℕ) (n i : ℕ) → i < n → ((j : ℕ) → j < n → r j ≡ s j) → rank_of r n i ≡ rank_of s n i
 rank_same r s n i l h = count_same (ahead r i) (ahead s i) n (λ j m. rw (h i l, h j m))
+
+-- a rank among the keys of a list is a count over its places and keys
+pub rank_numbered : (keys : List ℕ) (i : ℕ) →
+    count_by (λ (p : ℕ × ℕ). nat_lt (slice_index keys i) p.1 || (slice_index keys i == p.1 && nat_lt p.0 i)) (enumerate_from 0 keys)
+    ≡ rank_of (λ k. slice_index keys k) (length keys) i
+rank_numbered keys i =
+    let test = λ (p : ℕ × ℕ). nat_lt (slice_index keys i) p.1 || (slice_index keys i == p.1 && nat_lt p.0 i) in
+    let at : ℕ → ℕ × ℕ = λ k. (k, slice_index keys k) in
+    let places : enumerate_from 0 keys ≡ map at (range_with_len 0 (length keys)) =
+    fill_by_all at (enumerate_from 0 keys) (length keys) (0, 0) (length-enumerate_from 0 keys) (λ k l. rw zero-add at (get_or-enumerate_from 0 keys k (0, 0) l)) in
+    ap (count_by test) places ∙ fold-map (λ a p. a + one_if (test p)) at 0 (range_with_len 0 (length keys))
 
 module _ (r : ℕ → ℕ) where
   ahead_not_self : (i : ℕ) → ahead r i i ≡ false
@@ -25,7 +39,7 @@ module _ (r : ℕ → ℕ) where
   ahead_on i j k h l = grind (arith, nat_tests)
 
   pub rank_less : (n i j : ℕ) → i < n → ahead r j i ≡ true → rank_of r n i < rank_of r n j
-  rank_less n i j l h = count_less (ahead r i) (ahead r j) n (λ k _ e. ahead_on j i k h e) i l (ahead_not_self i) h
+  rank_less n i j l h = count_less (ahead r i) (ahead r j) (λ k e. ahead_on j i k h e) i (ahead_not_self i) h n l
 
   -- the rank among one place more
   rank_more : (n i : ℕ) → rank_of r (n + 1) i ≡ rank_of r n i + one_if (ahead r i n)
@@ -42,13 +56,13 @@ module _ (r : ℕ → ℕ) where
       (λ e. inl (omega (arith, rank_more n i, ap one_if (ahead_one_way n i e)), rank_less n i n l e))
       (λ e.
       let f : ahead r i n ≡ true = ahead_either n i l e in
-      inr (omega (arith, rank_more n i, ap one_if f), count_le (ahead r n) (ahead r i) n (λ k _ g. ahead_on i n k f g)))
+      inr (omega (arith, rank_more n i, ap one_if f), count_le (ahead r n) (ahead r i) (range_with_len 0 n) (λ k g. ahead_on i n k f g)))
       (cases_Bool (ahead r n i))
 
   -- With a place n more, the tests of the places below n are those for k or for k - 1, as place n has a rank below k or not.
-  pub ranked : (n k : ℕ) → k ≤ n → count_to (λ i. nat_lt (rank_of r n i) k) n ≡ k
+  pub ranked : (n k : ℕ) → k ≤ n → count_by (λ i. nat_lt (rank_of r n i) k) (range_with_len 0 n) ≡ k
   ranked =
-      by_count (λ n. (k : ℕ) → k ≤ n → count_to (λ i. nat_lt (rank_of r n i) k) n ≡ k) (λ k h. omega arith)
+      by_count (λ n. (k : ℕ) → k ≤ n → count_by (λ i. nat_lt (rank_of r n i) k) (range_with_len 0 n) ≡ k) (λ k h. omega arith)
       (λ n before k h.
       let new = λ (i : ℕ). nat_lt (rank_of r (n + 1) i) k in
       let more = count_more new n in

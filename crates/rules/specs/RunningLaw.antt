@@ -1,14 +1,13 @@
 -- Running total keeps the law. Assumes nothing.
-use Rattle.std.specs.Prelude.{◌≡◌, ℕ, zero, suc, ◌+◌, ◌-◌, ◌*◌, ◌/◌, ◌<◌, ◌≤◌, max, List, map, length, take, sum, slice_index}
-use Rattle.std.proofs.Common.{take_all, inl, inr, sym, ap, ◌∙◌, add-mul, div-add-mod', div-mul-le_self, mod-lt, mul-div_cancel, mul-zero, zero-mul, arith}
+use Rattle.std.specs.Prelude.{◌≡◌, ℕ, zero, suc, ◌+◌, ◌-◌, ◌*◌, ◌/◌, ◌<◌, ◌≤◌, List, map, length, take, sum, slice_index}
+use Rattle.std.proofs.Common.{take_all, ⊎_elim, sym, ap, ◌∙◌, add-mul, div-add-mod', div-mul-le_self, mod-lt, mul-div_cancel, mul-zero, zero-mul, arith}
 use Rattle.std.proofs.Math.Nat.{div-zero, zero-div}
 use Rattle.std.specs.List.{range_with_len}
 use Rattle.std.proofs.lemmas.Nat.{le-div}
 use Rattle.std.proofs.lemmas.List.FromFn.{sum_by-map-range_with_len_more}
-use Rattle.std.proofs.lemmas.List.Sums.{sum_by_more}
 use Rattle.tariff.specs.Division.{LawfulRule, gap}
 use Rattle.rules.specs.RunningTotal.{reached, running, running_share}
-use Rattle.rules.specs.Accepting.{Claimed, kept, lawful_by, product_more, same_quotient}
+use Rattle.rules.specs.Accepting.{Claimed, claimed, claimed_or_none, lawful_by, product_more}
 use Rattle.rules.specs.Counts.{by_count}
 
 -- whole parts keep the order
@@ -27,18 +26,15 @@ module _ (T : ℕ) (ws : List ℕ) where
   pub reached_mono : (i : ℕ) → i < length ws → reached T ws i ≤ reached T ws (i + 1)
   reached_mono i h = div_mono _ _ (sum ws) (omega (arith, product_more T ws i h))
 
-  -- what one claim more reaches, as the code reckons it
-  pub reached_more : (all claimed i : ℕ) → all ≡ max (sum ws) 1 → Claimed T ws → claimed ≡ sum (take i ws) → i < length ws →
-      T * (claimed + slice_index ws i) / all ≡ reached T ws (i + 1)
-  reached_more all claimed i e ok f h =
-      ap (λ n. T * n / all) (omega (arith, sum_by_more (λ x. x) ws i 0 h)) ∙ same_quotient T (sum (take (i + 1) ws)) all ws e ok
-
   reached_none : reached T ws 0 ≡ 0
   reached_none = rw (mul-zero T, zero-div (sum ws))
 
   reached_all : Claimed T ws → reached T ws (length ws) ≡ T
-  reached_all (inl e) = rw (e, zero-mul, zero-div)
-  reached_all (inr h) = rw (take_all (length ws) ws (omega arith)) (mul-div_cancel T h)
+  reached_all ok =
+      ⊎_elim
+      (λ (h : 0 < sum ws). rw (take_all (length ws) ws (omega arith)) (mul-div_cancel T h))
+      (λ (z : T ≡ 0). rw (z, zero-mul, zero-div))
+      (claimed_or_none T ws ok)
 
   -- the shares of the first n places come to what those places have reached
   front_adds : (n : ℕ) → n ≤ length ws → sum (map (running_share T ws) (range_with_len 0 n)) ≡ reached T ws n
@@ -51,5 +47,5 @@ module _ (T : ℕ) (ws : List ℕ) where
 
 pub running_lawful : LawfulRule 12 running
 running_lawful T ws ok =
-    lawful_by (running_share T ws) T ws (front_adds T ws (length ws) (omega arith) ∙ reached_all T ws (kept 12 T ws ok).claimed)
+    lawful_by (running_share T ws) T ws (front_adds T ws (length ws) (omega arith) ∙ reached_all T ws (claimed 12 T ws ok))
     (λ h i l. near_between (T * sum (take i ws)) (T * sum (take (i + 1) ws)) (T * slice_index ws i) (sum ws) h (product_more T ws i l))

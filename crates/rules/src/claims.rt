@@ -1,67 +1,93 @@
-// The claims of a division: their limits, their sum, how many are above 0, and when a rule refuses them.
-ghost use Rattle.std.specs.Prelude.{◌≡◌, ◌≤◌, max, true, length, sum};
+// The claims of a division: when a rule refuses them, and what a division that is admitted keeps.
+ghost use Rattle.std.specs.Prelude.{◌≡◌, ◌*◌, ◌/◌, ◌%◌, ◌^◌, ◌<◌, ◌≤◌, IfOk, length, sum};
+ghost use Rattle.rules.specs.declared.claims.TheConstants.{MOST_CLAIM, MOST_PLACES, MOST_TOTAL};
 ghost use Rattle.tariff.specs.Answers.{told};
 ghost use Rattle.tariff.specs.Division.{above_zero, all_within, division_answer};
 
 use tariff::refusal::Refusal;
 
-const MOST_PLACES: usize = 12;
+pub(super) const MOST_PLACES: usize = 12;
 
 const MOST_TOTAL: u64 = 1_000_000_000_000;
 
 const MOST_CLAIM: u64 = 500_000;
 
+// A total and claims that a rule accepts, and what the claims come to. Only `admit` makes one.
+#[derive(Clone, Copy)]
+pub(super) struct Admitted<'a> {
+    total: u64,
+    claims: &'a [u64],
+    all: u64,
+    ghost few: { length claims.now ≤ MOST_PLACES },
+    ghost amount: { total ≤ MOST_TOTAL },
+    ghost summed: { all ≡ sum claims.now },
+    ghost within: { all ≤ MOST_PLACES * MOST_CLAIM },
+    ghost claimed: { all ≡ 0 → total ≡ 0 },
+}
+
+impl<'a> Admitted<'a> {
+    pub(super) fn total(&self) -> u64
+        ensures { result ≡ self.now.total }
+    {
+        self.total
+    }
+
+    pub(super) fn claims(&self) -> &'a [u64]
+        ensures { result.now ≡ self.now.claims.now }
+    {
+        self.claims
+    }
+
+    // The whole part of total × claimed / (all claims). Where all claims come to 0, so does the total.
+    pub(super) fn whole_part(&self, claimed: u64) -> u64
+        requires { claimed ≤ sum self.now.claims.now }
+        ensures { result ≡ self.now.total * claimed / sum self.now.claims.now }
+    {
+        self.total * claimed / self.all.max(1)
+    }
+
+    // Its remainder.
+    pub(super) fn remainder(&self, claimed: u64) -> u64
+        requires { claimed ≤ sum self.now.claims.now }
+        ensures { result ≡ self.now.total * claimed % sum self.now.claims.now }
+    {
+        self.total * claimed % self.all.max(1)
+    }
+}
+
 // Whether each claim is within its limit.
 fn all_within(claims: &[u64]) -> bool
     ensures { result ≡ all_within claims.now }
 {
-    for w in claims {
-        if *w > MOST_CLAIM {
-            return false;
-        }
-    }
-    true
+    claims.iter().all(|claim| *claim <= MOST_CLAIM)
 }
 
-// The sum of claims within their limits.
+// What the claims come to.
 fn total_of(claims: &[u64]) -> u64
-    requires within { all_within claims.now ≡ true }
-    requires few { length claims.now ≤ 12 }
+    requires { sum claims.now < 2 ^ 64 }
     ensures { result ≡ sum claims.now }
 {
-    let mut all = 0;
-    for w in claims {
-        all += *w;
-    }
-    all
-}
-
-// What to divide by: the sum of the claims, or 1 where it is 0. An accepted total is 0 there, and so is each share.
-pub(super) fn divisor(claims: &[u64]) -> u64
-    requires within { all_within claims.now ≡ true }
-    requires few { length claims.now ≤ 12 }
-    ensures { result ≡ max (sum claims.now) 1 }
-{
-    total_of(claims).max(1)
+    claims.iter().sum()
 }
 
 // How many claims are above 0.
 fn above_zero(claims: &[u64]) -> u64
-    requires { length claims.now ≤ 12 }
     ensures { result ≡ above_zero claims.now }
 {
-    let mut count = 0;
-    for w in claims {
-        if *w > 0 {
-            count += 1;
-        }
-    }
-    count
+    claims.iter().filter(|claim| **claim > 0).count() as u64
 }
 
-// Whether a rule that takes `most` claims above 0 divides `total` among `claims` into so many places.
-pub(super) fn admit(most: u64, total: u64, claims: &[u64], places: usize) -> Result<(), Refusal>
-    ensures { told result ≡ division_answer most total claims.now places }
+// Tests whether a rule that takes `most` claims above 0 divides `total` among `claims` into so many places.
+#[tactic(auto, using(crate::specs::Accepting::sum_within))]
+pub(super) fn admit<'a>(
+    most: u64,
+    total: u64,
+    claims: &'a [u64],
+    places: usize,
+) -> Result<Admitted<'a>, Refusal>
+    ensures answer { told result ≡ division_answer most total claims.now places }
+    ensures division { IfOk result (λ it. (it.total ≡ total) × (it.claims.now ≡ claims.now)
+        × (length claims.now ≡ places)) }
 {
     if claims.len() != places || places > MOST_PLACES {
         return Err(Refusal::ShareLists);
@@ -69,12 +95,13 @@ pub(super) fn admit(most: u64, total: u64, claims: &[u64], places: usize) -> Res
     if total > MOST_TOTAL || !all_within(claims) {
         return Err(Refusal::DivisionFigure);
     }
-    if total > 0 && total_of(claims) == 0 {
+    let all = total_of(claims);
+    if total > 0 && all == 0 {
         return Err(Refusal::NoClaims);
     }
     let count = above_zero(claims);
     if count > most {
         return Err(Refusal::TooManyClaims { count, limit: most });
     }
-    Ok(())
+    Ok(Admitted { total, claims, all })
 }

@@ -1,28 +1,35 @@
 // Running total: a share is what the claims up to this one have reached, less what those before it had.
-ghost use Rattle.std.specs.Prelude.{◌≡◌, length};
-ghost use Rattle.tariff.specs.Division.{Accepted, Unmoved};
+ghost use Rattle.std.specs.Prelude.{◌≡◌, Some, codes, length};
+ghost use Rattle.tariff.specs.Division.{Unmoved};
 ghost use Rattle.rules.specs.RunningTotal.{running};
 ghost use Rattle.rules.specs.RunningLaw.{running_lawful};
 
-use crate::claims::{admit, divisor};
+use crate::claims::{Admitted, admit};
+use std::fmt;
 use tariff::division::DivisionRule;
 use tariff::refusal::Refusal;
 
-#[derive(Clone, Copy)]
+#[derive(Clone, Copy, Debug, Default, PartialEq, Eq)]
 pub struct RunningTotal;
 
-// Writes the shares of an accepted division.
-fn share(total: u64, claims: &[u64], shares: &mut [u64])
-    requires accepted { Accepted 12 total claims.now }
-    requires places { length shares.old ≡ length claims.now }
-    ensures { shares.new ≡ running total claims.now }
+impl fmt::Display for RunningTotal {
+    ghost output = { λ _. Some (codes "running total") };
+
+    fn fmt<W: fmt::Write>(&self, f: &mut fmt::Formatter<W>) -> fmt::Result {
+        write!(f, "running total")
+    }
+}
+
+// Writes the shares of a division.
+fn share(division: &Admitted, shares: &mut [u64])
+    requires { length shares.old ≡ length division.now.claims.now }
+    ensures { shares.new ≡ running division.now.total division.now.claims.now }
 {
-    let all = divisor(claims);
     let mut claimed = 0;
     let mut given = 0;
-    for i in 0..claims.len() {
-        claimed += claims[i];
-        let reached = total * claimed / all;
+    for (i, claim) in division.claims().iter().enumerate() {
+        claimed += *claim;
+        let reached = division.whole_part(claimed);
         shares[i] = reached - given;
         given = reached;
     }
@@ -31,7 +38,7 @@ fn share(total: u64, claims: &[u64], shares: &mut [u64])
 impl DivisionRule for RunningTotal {
     const LIMIT: u64 = 12;
 
-    ghost most = { 12 };
+    ghost LIMIT = { 12 };
 
     ghost meaning = { λ _. running };
 
@@ -39,13 +46,9 @@ impl DivisionRule for RunningTotal {
 
     ghost lawful = { λ rule. running_lawful };
 
-    fn most_claims() -> u64 {
-        Self::LIMIT
-    }
-
     fn divide(&mut self, total: u64, claims: &[u64], shares: &mut [u64]) -> Result<(), Refusal> {
-        admit(Self::LIMIT, total, claims, shares.len())?;
-        share(total, claims, shares);
+        let division = admit(Self::LIMIT, total, claims, shares.len())?;
+        share(&division, shares);
         Ok(())
     }
 }

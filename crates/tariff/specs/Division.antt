@@ -1,5 +1,6 @@
 -- Dividing an amount among claims: when a rule refuses, the law that every rule keeps, and what one call does. Assumes nothing.
-use Rattle.std.specs.Prelude.{◌≡◌, ℕ, ◌+◌, ◌-◌, ◌*◌, ◌<◌, Bool, true, ◌&&◌, ◌||◌, List, [], ◌∷◌, length, sum, count_by, ◌==◌, nat_le, nat_lt, slice_index}
+use Rattle.std.specs.Prelude.{◌≡◌, ℕ, ◌+◌, ◌-◌, ◌*◌, ◌<◌, Bool, ◌&&◌, ◌||◌, List, length, sum, count_by, ◌==◌, nat_le, nat_lt, slice_index}
+use Rattle.std.specs.List.{list_all}
 use Rattle.tariff.specs.Answers.{Answer, granted, denied, ◌then◌, require, if_granted}
 use Rattle.tariff.specs.declared.refusal.Refusal.TheVariants.{ShareLists, DivisionFigure, NoClaims, TooManyClaims}
 
@@ -9,8 +10,7 @@ Division = ℕ → List ℕ → List ℕ
 
 -- a claim is at most 500,000
 abbrev pub all_within : List ℕ → Bool
-all_within [] = true
-all_within (claim ∷ claims) = nat_le claim 500000 && all_within claims
+all_within claims = list_all (λ claim. nat_le claim 500000) claims
 
 -- how many claims are above 0
 abbrev pub above_zero : List ℕ → ℕ

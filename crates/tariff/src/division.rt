@@ -17,7 +17,7 @@ pub trait DivisionRule {
     // What an accepted division of an amount among claims may make of the meaning.
     ghost moves: { Division → ℕ → List ℕ → Division → Type 0 };
 
-    // LIMIT, as a call.
+    // The limit, for callers at run time.
     fn most_claims() -> u64
         ensures { result ≡ LIMIT }
     {

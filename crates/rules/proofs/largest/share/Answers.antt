@@ -1,25 +1,15 @@
-use Rattle.std.proofs.Common.{◌≡◌, length, get_or, arith}
+use Rattle.std.proofs.Common.{◌≡◌, length, get_or, rules, arith}
 use Rattle.std.proofs.lemmas.List.FromFn.{fill_by_all}
 use Rattle.rules.specs.LargestRemainder.{largest_share, remainder}
-use Rattle.rules.specs.Accepting.{kept, share_fits}
 use Rattle.rules.specs.Ranks.{rank_same}
 use Rattle.rules.proofs.largest.share.Goals as goal
 
-pub give_units-requires : goal.give_units-requires
-give_units-requires c =
-    let k = kept 12 c.args.total c.args.claims.now c.requires.accepted in
-    record {
-      few = omega arith;
-      places = omega arith;
-      room = λ i h. omega (arith, c.whole_parts-left.ensures.wholes i (omega arith), share_fits c.args.total c.args.claims.now i k);
-    }
-
 pub returns : goal.returns
 returns c =
-    let T = c.args.total in
-    let ws = c.args.claims.now in
+    let T = c.args.division.now.total in
+    let ws = c.args.division.now.claims.now in
     let rests = c.whole_parts-left.new.remainders in
-    let n : length rests ≡ length ws = omega arith in
+    let n : length rests ≡ length ws = search rules in
     fill_by_all (largest_share T ws) c.give_units.new.shares (length ws) 0 (omega arith)
     (λ k h.
     let unit = c.give_units.ensures k (omega arith) in
