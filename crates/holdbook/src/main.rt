@@ -9,6 +9,7 @@ ghost use Rattle.tariff.specs.Prices.{prices};
 use rules::largest::LargestRemainder;
 use rules::running::RunningTotal;
 use sheets::hour_sheet::HourSheet;
+use std::fmt::Display;
 use std::io;
 use tariff::blocks::DayKind;
 use tariff::division::DivisionRule;
@@ -44,19 +45,16 @@ fn show_prices(rt: &HostRuntime) -> io::Result<()> {
         "day 1, a workday: day-ahead 5000 heavy and 3000 light, hours 7 to 22 real-time 4000 and factor 12000"
     )?;
     match priced() {
-        Ok(hour) => {
-            let total = hour.total;
-            let energy = hour.energy;
-            let holdback = hour.holdback;
-            println!(rt; "hour 8: total {total}, energy {energy}, holdback {holdback}")
-        }
+        Ok(hour) => println!(rt;
+            "hour 8: total {}, energy {}, holdback {}",
+            hour.total, hour.energy, hour.holdback
+        ),
         Err(refusal) => println!(rt; "refused by {refusal}"),
     }
 }
 
-fn show_holdings<R: DivisionRule>(
+fn show_holdings<R: DivisionRule + Display>(
     rt: &HostRuntime,
-    name: &str,
     rule: &mut R,
     request: u64,
     offers: [u64; 2],
@@ -66,7 +64,7 @@ fn show_holdings<R: DivisionRule>(
         Ok(holdings) => {
             let [a, b] = holdings;
             println!(rt;
-                "request {request} over offers {first} and {second} by {name}: {a} and {b}"
+                "request {request} over offers {first} and {second} by {rule}: {a} and {b}"
             )
         }
         Err(refusal) => println!(rt; "refused by {refusal}"),
@@ -75,8 +73,8 @@ fn show_holdings<R: DivisionRule>(
 
 fn main(rt: HostRuntime) -> io::Result<()> {
     show_prices(&rt)?;
-    show_holdings(&rt, "largest remainder", &mut LargestRemainder, 7, [30, 20])?;
-    show_holdings(&rt, "running total", &mut RunningTotal, 7, [30, 20])?;
-    show_holdings(&rt, "largest remainder", &mut LargestRemainder, 1, [9, 1])?;
-    show_holdings(&rt, "running total", &mut RunningTotal, 1, [9, 1])
+    show_holdings(&rt, &mut LargestRemainder, 7, [30, 20])?;
+    show_holdings(&rt, &mut RunningTotal, 7, [30, 20])?;
+    show_holdings(&rt, &mut LargestRemainder, 1, [9, 1])?;
+    show_holdings(&rt, &mut RunningTotal, 1, [9, 1])
 }
