@@ -74,6 +74,7 @@ fn total_of(claims: &[u64]) -> u64
 fn above_zero(claims: &[u64]) -> u64
     ensures { result ≡ above_zero claims.now }
 {
+    // usize has no From to u64; as keeps every count.
     claims.iter().filter(|claim| **claim > 0).count() as u64
 }
 

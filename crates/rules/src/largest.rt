@@ -16,7 +16,7 @@ impl fmt::Display for LargestRemainder {
     ghost output = { λ _. Some (codes "largest remainder") };
 
     fn fmt<W: fmt::Write>(&self, f: &mut fmt::Formatter<W>) -> fmt::Result {
-        write!(f, "largest remainder")
+        f.write_str("largest remainder")
     }
 }
 
@@ -26,6 +26,7 @@ fn rank(remainders: &[u64], i: usize) -> u64
     ensures { result ≡ rank_of (λ k. slice_index remainders.now k) (length remainders.now) i }
 {
     let own = remainders[i];
+    // usize has no From to u64; as keeps every count.
     remainders
         .iter()
         .enumerate()
@@ -72,6 +73,7 @@ fn share(division: &Admitted, shares: &mut [u64])
     requires { length shares.old ≡ length division.now.claims.now }
     ensures { shares.new ≡ largest division.now.total division.now.claims.now }
 {
+    // Fixed memory, no heap: of the row only the front is used.
     let mut row = [0; MOST_PLACES];
     let remainders = &mut row[..shares.len()];
     let left = whole_parts(division, shares, remainders);
@@ -89,6 +91,7 @@ impl DivisionRule for LargestRemainder {
 
     ghost lawful = { λ rule. largest_lawful };
 
+    // Provided by the trait, it would need a public `share` that asks for an accepted division; public calls ask nothing.
     fn divide(&mut self, total: u64, claims: &[u64], shares: &mut [u64]) -> Result<(), Refusal> {
         let division = admit(Self::LIMIT, total, claims, shares.len())?;
         share(&division, shares);

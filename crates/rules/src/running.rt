@@ -16,7 +16,7 @@ impl fmt::Display for RunningTotal {
     ghost output = { λ _. Some (codes "running total") };
 
     fn fmt<W: fmt::Write>(&self, f: &mut fmt::Formatter<W>) -> fmt::Result {
-        write!(f, "running total")
+        f.write_str("running total")
     }
 }
 
@@ -46,6 +46,7 @@ impl DivisionRule for RunningTotal {
 
     ghost lawful = { λ rule. running_lawful };
 
+    // Provided by the trait, it would need a public `share` that asks for an accepted division; public calls ask nothing.
     fn divide(&mut self, total: u64, claims: &[u64], shares: &mut [u64]) -> Result<(), Refusal> {
         let division = admit(Self::LIMIT, total, claims, shares.len())?;
         share(&division, shares);

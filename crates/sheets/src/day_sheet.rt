@@ -20,7 +20,7 @@ impl Hour {
 }
 
 // Hour h stands at place h - 1. Entries give the real-time prices by figures of type Q.
-#[derive(Drop)]
+#[derive(Debug, PartialEq, Eq, Drop)]
 pub struct DaySheet<Q> {
     day: u64,
     heavy: Option<Price>,
