@@ -1,9 +1,7 @@
 -- The ranks of n places by a key are 0 to n - 1, each once: k places have a rank below k. Assumes nothing.
-use Rattle.std.specs.Prelude.{◌≡◌, ℕ, ◌+◌, ◌-◌, ◌<◌, ◌≤◌, true, false, ◌&&◌, ◌||◌, ◌==◌, ◌⊎◌, List, map, length, count_by, nat_lt, slice_index}
-use Rattle.std.specs.List.{enumerate_from, range_with_len}
-use Rattle.std.proofs.Common.{inl, inr, ⊎_elim, ap, ◌∙◌, zero-add, arith}
-use Rattle.std.proofs.lemmas.List.FromFn.{fill_by_all, get_or-enumerate_from, length-enumerate_from}
-use Rattle.std.proofs.lemmas.List.Folds.{fold-map}
+use Rattle.std.specs.Prelude.{◌≡◌, ℕ, ◌+◌, ◌-◌, ◌<◌, ◌≤◌, true, false, ◌⊎◌, count_by, nat_lt}
+use Rattle.std.specs.List.{range_with_len}
+use Rattle.std.proofs.Common.{inl, inr, ⊎_elim, ap, arith}
 use Rattle.std.proofs.lemmas.Bool.{cases_Bool, cases_lt}
 use Rattle.std.proofs.lemmas.Bool.Decides.{nat_tests}
 use Rattle.rules.specs.LargestRemainder.{ahead, rank_of}
@@ -12,17 +10,6 @@ use Rattle.rules.specs.Counts.{by_count, count_le, count_less, count_more, count
 -- keys that agree on the places give the same ranks
 pub rank_same : (r s : ℕ → ℕ) (n i : ℕ) → i < n → ((j : ℕ) → j < n → r j ≡ s j) → rank_of r n i ≡ rank_of s n i
 rank_same r s n i l h = count_same (ahead r i) (ahead s i) n (λ j m. rw (h i l, h j m))
-
--- a rank among the keys of a list is a count over its places and keys
-pub rank_numbered : (keys : List ℕ) (i : ℕ) →
-    count_by (λ (p : ℕ × ℕ). nat_lt (slice_index keys i) p.1 || (slice_index keys i == p.1 && nat_lt p.0 i)) (enumerate_from 0 keys)
-    ≡ rank_of (λ k. slice_index keys k) (length keys) i
-rank_numbered keys i =
-    let test = λ (p : ℕ × ℕ). nat_lt (slice_index keys i) p.1 || (slice_index keys i == p.1 && nat_lt p.0 i) in
-    let at : ℕ → ℕ × ℕ = λ k. (k, slice_index keys k) in
-    let places : enumerate_from 0 keys ≡ map at (range_with_len 0 (length keys)) =
-    fill_by_all at (enumerate_from 0 keys) (length keys) (0, 0) (length-enumerate_from 0 keys) (λ k l. rw zero-add at (get_or-enumerate_from 0 keys k (0, 0) l)) in
-    ap (count_by test) places ∙ fold-map (λ a p. a + one_if (test p)) at 0 (range_with_len 0 (length keys))
 
 module _ (r : ℕ → ℕ) where
   ahead_not_self : (i : ℕ) → ahead r i i ≡ false
