@@ -4,7 +4,7 @@ use Rattle.std.proofs.Common.{⊎_elim, sym, subst, ap, ◌∙◌, add-mul, add-
 use Rattle.std.specs.List.{range_with_len}
 use Rattle.std.proofs.lemmas.List.FromFn.{length-range_with_len, sum_by-map-range_with_len_more, take-map-range_with_len}
 use Rattle.std.proofs.lemmas.List.Folds.{fold_stays}
-use Rattle.std.proofs.lemmas.List.Sums.{count_by-le-length, sum-map, sum_by-cons, sum_by-le-sum_by, sum_by-take-le}
+use Rattle.std.proofs.lemmas.List.Sums.{count_by-le-length, sum-map, sum_by-cons, sum_by-take-le}
 use Rattle.std.proofs.lemmas.Bool.{cases_lt}
 
 -- an induction whose step is written n + 1
@@ -48,8 +48,10 @@ one_if_le true b h = rw (h refl) (omega arith)
 pub count_more : (p : ℕ → Bool) (n : ℕ) → count_by p (range_with_len 0 (n + 1)) ≡ count_by p (range_with_len 0 n) + one_if (p n)
 count_more p n = sum_more (λ i. one_if (p i)) n
 
-pub count_le : (p q : ℕ → Bool) (xs : List ℕ) → ((i : ℕ) → p i ≡ true → q i ≡ true) → count_by p xs ≤ count_by q xs
-count_le p q xs h = sum_by-le-sum_by _ _ xs (λ i. one_if_le (p i) (q i) (h i))
+pub count_le : (p q : ℕ → Bool) (n : ℕ) → ((i : ℕ) → i < n → p i ≡ true → q i ≡ true) → count_by p (range_with_len 0 n) ≤ count_by q (range_with_len 0 n)
+count_le p q =
+    by_count (λ n. ((i : ℕ) → i < n → p i ≡ true → q i ≡ true) → count_by p (range_with_len 0 n) ≤ count_by q (range_with_len 0 n)) (λ _. omega arith)
+    (λ n before h. omega (arith, before (λ i l. h i (omega arith)), one_if_le (p n) (q n) (h n (omega arith)), count_more p n, count_more q n))
 
 pub count_same : (p q : ℕ → Bool) (n : ℕ) → ((i : ℕ) → i < n → p i ≡ q i) → count_by p (range_with_len 0 n) ≡ count_by q (range_with_len 0 n)
 count_same p q =
@@ -57,16 +59,20 @@ count_same p q =
     (λ n before h. omega (arith, before (λ i l. h i (omega arith)), ap one_if (h n (omega arith)), count_more p n, count_more q n))
 
 -- one place that only q passes makes the difference
-pub count_less : (p q : ℕ → Bool) → ((i : ℕ) → p i ≡ true → q i ≡ true) → (j : ℕ) → p j ≡ false → q j ≡ true →
-    (n : ℕ) → j < n → count_by p (range_with_len 0 n) < count_by q (range_with_len 0 n)
-count_less p q h j e f =
-    by_count (λ n. j < n → count_by p (range_with_len 0 n) < count_by q (range_with_len 0 n)) (λ l. omega arith)
-    (λ n before l. ⊎_elim
-    (λ (m : j < n). omega (arith, before m, one_if_le (p n) (q n) (h n), count_more p n, count_more q n))
+abbrev Less : (p q : ℕ → Bool) → ℕ → Type 0
+Less p q n =
+    ((i : ℕ) → i < n → p i ≡ true → q i ≡ true) → (j : ℕ) → j < n → p j ≡ false → q j ≡ true
+    → count_by p (range_with_len 0 n) < count_by q (range_with_len 0 n)
+
+pub count_less : (p q : ℕ → Bool) (n : ℕ) → Less p q n
+count_less p q =
+    by_count (Less p q) (λ _ j l. omega arith)
+    (λ n before h j l e f. ⊎_elim
+    (λ (m : j < n). omega (arith, before (λ i k. h i (omega arith)) j m e f, one_if_le (p n) (q n) (h n (omega arith)), count_more p n, count_more q n))
     (λ (m : n ≤ j). let z : n ≡ j = omega arith in
     let none : one_if (p n) ≡ 0 = rw (z, e) in
     let one : one_if (q n) ≡ 1 = rw (z, f) in
-    omega (arith, count_le p q (range_with_len 0 n) h, none, one, count_more p n, count_more q n))
+    omega (arith, count_le p q n (λ i k. h i (omega arith)), none, one, count_more p n, count_more q n))
     (cases_lt j n))
 
 pub count_within : (p : ℕ → Bool) (n : ℕ) → count_by p (range_with_len 0 n) ≤ n

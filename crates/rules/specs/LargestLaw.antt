@@ -75,7 +75,7 @@ module _ (T : ℕ) (ws : List ℕ) where
   served_above ok i l =
       ⊎_elim (λ h. h)
       (λ (z : remainder T ws i ≤ 0).
-      let all = count_le (λ j. ltb 0 (remainder T ws j)) (ahead (remainder T ws) i) (range_with_len 0 (length ws)) (λ j e. grind (arith, nat_tests)) in
+      let all = count_le (λ j. ltb 0 (remainder T ws j)) (ahead (remainder T ws) i) (length ws) (λ j _ e. grind (arith, nat_tests)) in
       omega (arith, left_le ok))
       (cases_lt 0 (remainder T ws i))
 

@@ -26,7 +26,7 @@ module _ (r : ℕ → ℕ) where
   ahead_on i j k h l = grind (arith, nat_tests)
 
   pub rank_less : (n i j : ℕ) → i < n → ahead r j i ≡ true → rank_of r n i < rank_of r n j
-  rank_less n i j l h = count_less (ahead r i) (ahead r j) (λ k e. ahead_on j i k h e) i (ahead_not_self i) h n l
+  rank_less n i j l h = count_less (ahead r i) (ahead r j) n (λ k _ e. ahead_on j i k h e) i l (ahead_not_self i) h
 
   -- the rank among one place more
   rank_more : (n i : ℕ) → rank_of r (n + 1) i ≡ rank_of r n i + one_if (ahead r i n)
@@ -43,7 +43,7 @@ module _ (r : ℕ → ℕ) where
       (λ e. inl (omega (arith, rank_more n i, ap one_if (ahead_one_way n i e)), rank_less n i n l e))
       (λ e.
       let f : ahead r i n ≡ true = ahead_either n i l e in
-      inr (omega (arith, rank_more n i, ap one_if f), count_le (ahead r n) (ahead r i) (range_with_len 0 n) (λ k g. ahead_on i n k f g)))
+      inr (omega (arith, rank_more n i, ap one_if f), count_le (ahead r n) (ahead r i) n (λ k _ g. ahead_on i n k f g)))
       (cases_Bool (ahead r n i))
 
   -- With a place n more, the tests of the places below n are those for k or for k - 1, as place n has a rank below k or not.

@@ -12,11 +12,12 @@ const MOST_TOTAL: u64 = 1_000_000_000_000;
 
 const MOST_CLAIM: u64 = 500_000;
 
-// A total and claims that a rule accepts, and what the claims come to. Only `admit` makes one.
+// A total and claims that a rule accepts, and what the claims come to. The shares stay beside it: wrapped with them for
+// each call, it would be longer than the clause that there are as many.
 #[derive(Clone, Copy)]
 pub(super) struct Admitted<'a> {
-    total: u64,
-    claims: &'a [u64],
+    pub(super) total: u64,
+    pub(super) claims: &'a [u64],
     all: u64,
     ghost few: { length claims.now ≤ MOST_PLACES },
     ghost amount: { total ≤ MOST_TOTAL },
@@ -25,19 +26,7 @@ pub(super) struct Admitted<'a> {
     ghost claimed: { all ≡ 0 → total ≡ 0 },
 }
 
-impl<'a> Admitted<'a> {
-    pub(super) fn total(&self) -> u64
-        ensures { result ≡ self.now.total }
-    {
-        self.total
-    }
-
-    pub(super) fn claims(&self) -> &'a [u64]
-        ensures { result.now ≡ self.now.claims.now }
-    {
-        self.claims
-    }
-
+impl Admitted<'_> {
     // The whole part of total × claimed / (all claims). Where all claims come to 0, so does the total.
     pub(super) fn whole_part(&self, claimed: u64) -> u64
         requires { claimed ≤ sum self.now.claims.now }

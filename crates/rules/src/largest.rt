@@ -5,6 +5,7 @@ ghost use Rattle.rules.specs.LargestRemainder.{largest, rank_of, remainder, unit
 ghost use Rattle.rules.specs.LargestLaw.{largest_lawful};
 
 use crate::claims::{Admitted, MOST_PLACES, admit};
+use std::cmp::Reverse;
 use std::fmt;
 use tariff::division::DivisionRule;
 use tariff::refusal::Refusal;
@@ -20,24 +21,17 @@ impl fmt::Display for LargestRemainder {
     }
 }
 
-// Whether the other remainder, at place j, comes before one's own, at place i: it is larger, or equal and stands earlier.
-fn is_ahead(own: u64, i: usize, other: u64, j: usize) -> bool
-    ensures { result ≡ (nat_lt own other || (own == other && nat_lt j i)) }
-{
-    own < other || (own == other && j < i)
-}
-
-// How many places come before place i.
+// How many places come before place i: their remainder is larger, or equal and they stand earlier.
 #[tactic(auto, using(crate::specs::Counts::count_more))]
 fn rank(remainders: &[u64], i: usize) -> u64
     requires { i < length remainders.now }
     ensures { result ≡ rank_of (λ k. slice_index remainders.now k) (length remainders.now) i }
 {
-    let own = remainders[i];
+    let own = (Reverse(remainders[i]), i);
     let mut count = 0;
     // Filtered and counted by a chain, all of a division takes three times as long.
     for (j, &other) in remainders.iter().enumerate() {
-        if is_ahead(own, i, other, j) {
+        if (Reverse(other), j) < own {
             count += 1;
         }
     }
@@ -54,11 +48,12 @@ fn whole_parts(division: &Admitted, shares: &mut [u64], remainders: &mut [u64]) 
         → slice_index remainders.new k ≡ remainder division.now.total division.now.claims.now k }
     ensures left { result ≡ units_left division.now.total division.now.claims.now }
 {
-    let mut left = division.total();
-    for (i, claim) in division.claims().iter().enumerate() {
-        let whole = division.whole_part(*claim);
+    let mut left = division.total;
+    // Written by index: after a zip with iter_mut a proof knows nothing of the slices.
+    for (i, &claim) in division.claims.iter().enumerate() {
+        let whole = division.whole_part(claim);
         shares[i] = whole;
-        remainders[i] = division.remainder(*claim);
+        remainders[i] = division.remainder(claim);
         left -= whole;
     }
     left
@@ -83,7 +78,7 @@ fn share(division: &Admitted, shares: &mut [u64])
     requires { length shares.old ≡ length division.now.claims.now }
     ensures { shares.new ≡ largest division.now.total division.now.claims.now }
 {
-    // Fixed memory, no heap: of the row only the front is used.
+    // Fixed memory, no heap: of the row, beside the caller's shares, only the front is used.
     let mut row = [0; MOST_PLACES];
     let remainders = &mut row[..shares.len()];
     let left = whole_parts(division, shares, remainders);
@@ -101,7 +96,8 @@ impl DivisionRule for LargestRemainder {
 
     ghost lawful = { λ rule. largest_lawful };
 
-    // Provided by the trait, it would need a public `share` that asks for an accepted division; public calls ask nothing.
+    // The same lines in both rules: a helper that takes `share` has a longer contract than they are, and provided by the
+    // trait they would need a public call that asks something of its caller.
     fn divide(&mut self, total: u64, claims: &[u64], shares: &mut [u64]) -> Result<(), Refusal> {
         let division = admit(Self::LIMIT, total, claims, shares.len())?;
         share(&division, shares);

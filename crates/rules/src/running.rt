@@ -27,8 +27,9 @@ fn share(division: &Admitted, shares: &mut [u64])
 {
     let mut claimed = 0;
     let mut given = 0;
-    for (i, claim) in division.claims().iter().enumerate() {
-        claimed += *claim;
+    // Written by index: after a zip with iter_mut a proof knows nothing of the slice.
+    for (i, &claim) in division.claims.iter().enumerate() {
+        claimed += claim;
         let reached = division.whole_part(claimed);
         shares[i] = reached - given;
         given = reached;
@@ -46,7 +47,8 @@ impl DivisionRule for RunningTotal {
 
     ghost lawful = { λ rule. running_lawful };
 
-    // Provided by the trait, it would need a public `share` that asks for an accepted division; public calls ask nothing.
+    // The same lines in both rules: a helper that takes `share` has a longer contract than they are, and provided by the
+    // trait they would need a public call that asks something of its caller.
     fn divide(&mut self, total: u64, claims: &[u64], shares: &mut [u64]) -> Result<(), Refusal> {
         let division = admit(Self::LIMIT, total, claims, shares.len())?;
         share(&division, shares);

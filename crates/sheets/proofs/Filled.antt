@@ -1,6 +1,6 @@
 -- Rows of hours: one in which every hour is missing, and one of which a part is filled. Assumes nothing.
-use Rattle.std.proofs.Common.{◌≡◌, ℕ, zero, suc, ◌+◌, ◌-◌, ◌<◌, ◌≤◌, Bool, true, false, cond, ◌&&◌, eqb, leb, ltb, List, length, get_or, replicate, ⊎_elim, ◌∙◌, refl, ap, arith, rules, length-drop, length-take}
-use Rattle.std.proofs.lemmas.Bool.{cases_lt}
+use Rattle.std.proofs.Common.{◌≡◌, ℕ, zero, suc, ◌+◌, ◌-◌, ◌<◌, ◌≤◌, Bool, true, false, cond, ◌&&◌, eqb, leb, ltb, List, length, get_or, replicate, None, ⊎_elim, ◌∙◌, refl, ap, arith, rules, length-drop, length-take}
+use Rattle.std.proofs.lemmas.Bool.{cases_lt, cond_both}
 use Rattle.std.proofs.lemmas.Bool.Decides.{nat_tests}
 use Rattle.std.proofs.lemmas.List.{get_or-replicate, places}
 use borrow.Rule.Slice.PartMut.{mid_of, put_mid}
@@ -8,19 +8,28 @@ use Rattle.tariff.specs.Blocks.{is_hour}
 use Rattle.sheets.proofs.SameSheets.{same_sheet}
 use Rattle.sheets.specs.DaySheets.{hour_of, missing, sheet_of}
 use Rattle.sheets.specs.Kept.{cents_of, parts_of}
-use Rattle.sheets.specs.Sheets.{among, filled}
+use Rattle.sheets.specs.Sheets.{among, filled, opened}
 use Rattle.sheets.specs.declared.day_sheet.DaySheet.{DaySheet}
 use Rattle.sheets.specs.declared.day_sheet.Hour.{Hour}
 
--- a row of one value has it everywhere, and past its end too where it is the default
+-- a row of one value, which is the default too, has it everywhere
 same_everywhere : {A : Type 0} (n k : ℕ) (d : A) → get_or (replicate n d) k d ≡ d
 same_everywhere zero k d = refl
 same_everywhere (suc n) zero d = refl
 same_everywhere (suc n) (suc k) d = same_everywhere n k d
 
-pub all_missing : (b : Bool) (k : ℕ) → cond b (get_or (replicate 24 missing) k missing) missing ≡ missing
-all_missing true k = same_everywhere 24 k missing
-all_missing false k = refl
+-- a sheet on which one hour that has no figure stands everywhere
+module _ {Q : Type 0} (sheet : DaySheet Q) (h : Hour) (all : sheet.hours ≡ replicate 24 h) (none : (h.real_time ≡ None) × (h.factor ≡ None)) where
+  no_figure : h ≡ missing
+  no_figure = λ i. record { real_time = none.0 i; factor = none.1 i }
+
+  nothing : (d hour : ℕ) → hour_of sheet d hour ≡ missing
+  nothing d hour =
+      cond_both (eqb d sheet.day && is_hour hour) (get_or sheet.hours (hour - 1) missing) missing (λ x. x ≡ missing)
+      (λ _. rw (all, no_figure) (same_everywhere 24 (hour - 1) missing)) (λ _. refl)
+
+  pub sheet_opened : sheet_of sheet ≡ opened sheet.day (cents_of sheet.heavy) (cents_of sheet.light)
+  sheet_opened = same_sheet _ _ refl (λ d block. refl) (λ d hour. ap (λ x. cents_of x.real_time) (nothing d hour)) (λ d hour. ap (λ x. parts_of x.factor) (nothing d hour))
 
 -- a place of a row after k places from a on were filled with v
 at_filled : {A : Type 0} (a k : ℕ) (xs ys : List A) (v d : A) (i : ℕ) → a + k ≤ length xs → ys ≡ replicate k v

@@ -1,6 +1,8 @@
 -- A sheet keeps the limits of prices and factors. Assumes nothing.
-use Rattle.std.specs.Prelude.{◌≡◌, ℕ, ◌≤◌, Bool, true, false, cond, ℤ, Some, None, Option, ◌==◌, unsigned_abs}
+use Rattle.std.specs.Prelude.{◌≡◌, ℕ, ◌≤◌, Bool, cond, ℤ, Some, None, Option, ◌==◌, unsigned_abs}
 use Rattle.std.proofs.Common.{subst}
+use Rattle.std.proofs.lemmas.Bool.{cond_both}
+use Rattle.tariff.specs.Prices.{most_factor, most_price}
 use Rattle.tariff.specs.Tables.{Priced, Factored, Limited}
 use Rattle.tariff.specs.declared.blocks.Block.{Block}
 use Rattle.tariff.specs.declared.blocks.Block.TheVariants.{Heavy, Light}
@@ -12,15 +14,14 @@ use Rattle.sheets.specs.declared.day_sheet.DaySheet.{DaySheet}
 
 priced : (kept : Option Price) → Priced (cents_of kept)
 priced None price e = absurd cc
-priced (Some p) price e = let same : p.cents ≡ price = cc in subst (λ c. unsigned_abs c ≤ 1000000) same p.within
+priced (Some p) price e = let same : p.cents ≡ price = cc in subst (λ c. unsigned_abs c ≤ most_price) same p.within
 
 factored : (kept : Option Factor) → Factored (parts_of kept)
 factored None factor e = absurd cc
-factored (Some f) factor e = let same : f.parts ≡ factor = cc in subst (λ n. n ≤ 100000) same f.within
+factored (Some f) factor e = let same : f.parts ≡ factor = cc in subst (λ n. n ≤ most_factor) same f.within
 
 only_if : (b : Bool) (place : Option ℤ) → Priced place → Priced (cond b place None)
-only_if true place h = h
-only_if false place h = λ price e. absurd cc
+only_if b place h = cond_both b place None Priced (λ _. h) (λ _ price e. absurd cc)
 
 block_priced : {Q : Type 0} (sheet : DaySheet Q) (day : ℕ) (block : Block) → Priced ((tables_of sheet).day_ahead day block)
 block_priced sheet day Heavy = only_if (day == sheet.day) (cents_of sheet.heavy) (priced sheet.heavy)

@@ -6,6 +6,7 @@ use crate::real_time::RealTime;
 use tariff::figures::{Price, enter_or_miss};
 use tariff::refusal::Refusal;
 
+// The real-time price is one figure of the entry, at position 3.
 pub type HourSheet = DaySheet<Option<i64>>;
 
 impl RealTime for Option<i64> {

@@ -16,6 +16,7 @@ pub(crate) struct Hours {
 }
 
 impl Hours {
+    // The first and the last hour of an entry, or a refusal that names the one at fault.
     pub(crate) fn enter(first: i64, last: i64) -> Result<Hours, Refusal>
         ensures answer { told result ≡ hours_answer first last }
         ensures value { IfOk result (λ hours. (hours.first ≡ unsigned_abs first) × (hours.last ≡ unsigned_abs last)) }

@@ -9,6 +9,7 @@ use crate::real_time::RealTime;
 use tariff::figures::{Price, enter_or_miss};
 use tariff::refusal::Refusal;
 
+// The four results stand at positions 3 to 6 of the entry.
 pub type QuarterSheet = DaySheet<[Option<i64>; 4]>;
 
 // The average of four results, missing if one of them is.

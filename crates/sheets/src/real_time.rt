@@ -19,6 +19,7 @@ pub trait RealTime: Copy {
     // The price that they come to.
     ghost price: { Self → Option ℤ };
 
+    // That price, or the refusal of the first figure that is not taken.
     fn settle(self) -> Result<Option<Price>, Refusal>
         ensures answer { told result ≡ answer self }
         ensures value { IfOk result (λ kept. cents_of kept ≡ price self) };

@@ -1,5 +1,5 @@
 -- The hours of a day and the two blocks that they make up. Assumes nothing.
-use Rattle.std.specs.Prelude.{ℕ, Bool, cond, ◌&&◌, nat_le}
+use Rattle.std.specs.Prelude.{ℕ, ◌-◌, Bool, cond, ◌&&◌, Some, None, Option, nat_le}
 use Rattle.tariff.specs.Answers.{Answer, require}
 use Rattle.tariff.specs.declared.blocks.Block.{Block}
 use Rattle.tariff.specs.declared.blocks.Block.TheVariants.{Heavy, Light}
@@ -13,6 +13,10 @@ hours_of_day = 24
 
 abbrev pub is_hour : ℕ → Bool
 is_hour hour = nat_le 1 hour && nat_le hour hours_of_day
+
+-- where it stands in a table of a day's hours
+abbrev pub place_of : ℕ → Option ℕ
+place_of hour = cond (is_hour hour) (Some (hour - 1)) None
 
 -- on a workday the hours 7 to 22 are heavy; every other hour is light, and so are all hours of Sundays and holidays
 abbrev pub block_of : DayKind → ℕ → Block

@@ -19,14 +19,14 @@ impl Cover {
     pub fn delivery_factor(self, failure_day: u64) -> u64
         ensures { result ≡ delivery_factor failure_day self }
     {
-        let column = match failure_day {
-            0 | 1 => 0,
-            2 => 1,
-            _ => 2,
+        let [first, second, later] = match self {
+            Cover::Covered => COVERED,
+            Cover::Uncovered => UNCOVERED,
         };
-        match self {
-            Cover::Covered => COVERED[column],
-            Cover::Uncovered => UNCOVERED[column],
+        match failure_day {
+            0 | 1 => first,
+            2 => second,
+            _ => later,
         }
     }
 }

@@ -1,5 +1,7 @@
 // Figures that are kept only within their limits.
-ghost use Rattle.std.specs.Prelude.{◌≡◌, ℕ, ◌≤◌, ℤ, pos, Bool, IfOk, IfSome, is_some, unsigned_abs};
+ghost use Rattle.std.specs.Prelude.{◌≡◌, ◌≤◌, ℤ, pos, Bool, true, IfOk, IfSome, is_some, unsigned_abs};
+ghost use Rattle.std.proofs.Common.{arith};
+ghost use Rattle.std.proofs.lemmas.Bool.Decides.{nat_tests};
 ghost use Rattle.std.specs.Option.{option_map};
 ghost use Rattle.tariff.specs.Answers.{told, require};
 ghost use Rattle.tariff.specs.Figures.{between, or_missing};
@@ -9,7 +11,12 @@ ghost use Rattle.tariff.specs.declared.refusal.Refusal.TheVariants.{Figure as fi
 use crate::prices::is_price;
 use crate::refusal::Refusal;
 
-// A figure of an entry, as it is kept.
+pub(crate) const MOST_PRICE: u64 = 1_000_000;
+
+const MOST_FACTOR: u32 = 100_000;
+
+// A figure of an entry, as it is kept: only within its limits. It is no TryFrom, since that is told by a relation, and an
+// answer by one equation.
 pub trait Figure: Sized {
     // The limits of what is entered.
     ghost is_within: { ℤ → Bool };
@@ -17,37 +24,34 @@ pub trait Figure: Sized {
     // What it was entered as.
     ghost entered: { Self → ℤ };
 
+    // The figure, unless it is outside its limits.
+    fn kept(figure: i64) -> Option<Self>
+        ensures variant { is_some result ≡ is_within figure }
+        ensures value { IfSome result (λ kept. entered kept ≡ figure) };
+
     // The figure at a position of its entry, or the refusal that names the position.
     fn enter(figure: i64, position: u64) -> Result<Self, Refusal>
         ensures answer { told result ≡ require (is_within figure) (figure_at position) }
-        ensures value { IfOk result (λ kept. entered kept ≡ figure) };
+        ensures value { IfOk result (λ kept. entered kept ≡ figure) }
+    {
+        Self::kept(figure).ok_or(Refusal::Figure { position })
+    }
+
+    ghost limited: { (kept : Self) → is_within (entered kept) ≡ true };
 }
 
 // A price, in cents per MWh.
 #[derive(Clone, Copy, Debug, PartialEq, Eq, PartialOrd, Ord)]
 pub struct Price {
     pub cents: i64,
-    ghost within: { unsigned_abs cents ≤ most_price },
+    pub ghost within: { unsigned_abs cents ≤ most_price },
 }
 
 // A shaping factor, in ten-thousandths.
 #[derive(Clone, Copy, Debug, PartialEq, Eq, PartialOrd, Ord)]
 pub struct Factor {
     pub parts: u32,
-    ghost within: { parts ≤ most_factor },
-}
-
-impl Figure for Price {
-    ghost is_within = { is_price };
-
-    ghost entered = { λ price. price.cents };
-
-    fn enter(figure: i64, position: u64) -> Result<Price, Refusal> {
-        if !is_price(figure) {
-            return Err(Refusal::Figure { position });
-        }
-        Ok(Price { cents: figure })
-    }
+    pub ghost within: { parts ≤ most_factor },
 }
 
 impl Factor {
@@ -56,11 +60,26 @@ impl Factor {
         ensures variant { is_some result ≡ is_factor parts }
         ensures value { IfSome result (λ factor. factor.parts ≡ parts) }
     {
-        let parts = u32::try_from(parts).ok()?;
-        if parts > 100_000 {
-            return None;
+        match u32::try_from(parts) {
+            Ok(parts) if parts <= MOST_FACTOR => Some(Factor { parts }),
+            _ => None,
         }
-        Some(Factor { parts })
+    }
+}
+
+impl Figure for Price {
+    ghost is_within = { is_price };
+
+    ghost entered = { λ price. price.cents };
+
+    ghost limited = { λ price. Prim.grind (arith, nat_tests) };
+
+    fn kept(figure: i64) -> Option<Price> {
+        if is_price(figure) {
+            Some(Price { cents: figure })
+        } else {
+            None
+        }
     }
 }
 
@@ -69,11 +88,10 @@ impl Figure for Factor {
 
     ghost entered = { λ factor. pos factor.parts };
 
-    fn enter(figure: i64, position: u64) -> Result<Factor, Refusal> {
-        u64::try_from(figure)
-            .ok()
-            .and_then(Factor::new)
-            .ok_or(Refusal::Figure { position })
+    ghost limited = { λ factor. Prim.grind (arith, nat_tests) };
+
+    fn kept(figure: i64) -> Option<Factor> {
+        u64::try_from(figure).ok().and_then(Factor::new)
     }
 }
 

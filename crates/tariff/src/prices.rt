@@ -4,7 +4,7 @@ ghost use Rattle.tariff.specs.Answers.{Gives};
 ghost use Rattle.tariff.specs.Prices.{is_price, average_answer, average_price, initial_terms, total_price, energy_price, hour_prices, prices_answer};
 ghost use Rattle.tariff.specs.Rounding.{nearest};
 
-use crate::figures::{Factor, Figure, Price};
+use crate::figures::{Factor, Figure, MOST_PRICE, Price};
 use crate::refusal::Refusal;
 
 // What the pool reviews: the cap on the total price in cents, and the adder and the energy share in percent.
@@ -15,7 +15,8 @@ pub struct Terms {
     pub share: u16,
 }
 
-// What a buyer pays for each MW held and each MWh delivered, and both together.
+// What a buyer pays for each MW held and each MWh delivered, and both together. It prints nothing itself: its text could
+// not be promised, as the proof that signed fields behind a reference fit their type does not close.
 #[derive(Clone, Copy, Debug, PartialEq, Eq)]
 pub struct HourPrices {
     pub total: i64,
@@ -27,7 +28,7 @@ pub struct HourPrices {
 pub fn is_price(price: i64) -> bool
     ensures { result ≡ is_price price }
 {
-    price.unsigned_abs() <= 1_000_000
+    price.unsigned_abs() <= MOST_PRICE
 }
 
 // n / d to the nearest whole number, halves up.
@@ -41,20 +42,17 @@ fn nearest_whole(n: i64, d: i64) -> i64
 }
 
 // by × price / per to the nearest cent, halves up.
-fn scaled(by: u64, price: i64, per: i64) -> i64
-    requires factor { by ≤ 1000000000000000000 }
-    requires size { by * unsigned_abs price ≤ 1000000000000000000 }
+fn scaled(by: i64, price: i64, per: i64) -> i64
+    requires size { unsigned_abs by * unsigned_abs price ≤ 1000000000000000000 }
     requires above { pos 1 ≤ℤ per }
     requires below { per ≤ℤ pos 1000000 }
-    ensures { result ≡ nearest (pos by *ℤ price) per }
+    ensures { result ≡ nearest (by *ℤ price) per }
 {
-    // It fits: try_from would add an error that never comes.
-    let exact = by as i64 * price;
-    nearest_whole(exact, per)
+    nearest_whole(by * price, per)
 }
 
 impl Price {
-    // The average of four prices, to the nearest cent.
+    // The average of four prices, to the nearest cent: four names as in its rule, where an array would have four indices.
     pub fn average(first: Price, second: Price, third: Price, fourth: Price) -> Price
         ensures { result.cents ≡ average_price first.cents second.cents third.cents fourth.cents }
     {
@@ -64,7 +62,7 @@ impl Price {
     }
 }
 
-// The average of four prices, to the nearest cent, or a refusal that names the first outside its limits.
+// The same of plain figures, or a refusal that names the first outside its limits.
 pub fn average(first: i64, second: i64, third: i64, fourth: i64) -> Result<i64, Refusal>
     ensures value { Gives (average_answer first second third fourth) (average_price first second third fourth) result }
     ensures size { IfOk result (λ price. unsigned_abs price ≤ 1000000) }
@@ -88,13 +86,20 @@ impl Terms {
         }
     }
 
+    // By what a day-ahead price is multiplied, in millionths.
+    fn multiplier(self, factor: Factor) -> i64
+        ensures { result ≡ pos (factor.parts * self.adder) }
+    {
+        i64::from(factor.parts) * i64::from(self.adder)
+    }
+
     // The total price, which is never below 0.
     fn total_price(self, day_ahead: Price, factor: Factor) -> u32
         ensures { pos result ≡ total_price self day_ahead.cents factor.parts }
     {
-        let by = u64::from(factor.parts) * u64::from(self.adder);
-        // Clamped it fits: try_from would add an error that never comes.
-        scaled(by, day_ahead.cents, 1_000_000).clamp(0, i64::from(self.cap)) as u32
+        let exact = scaled(self.multiplier(factor), day_ahead.cents, 1_000_000);
+        // There is no From to u32; as is proved to lose nothing.
+        exact.clamp(0, i64::from(self.cap)) as u32
     }
 
     // The energy price at a total price.
@@ -102,7 +107,7 @@ impl Terms {
         ensures { result.cents ≡ energy_price self (pos total) real_time.cents }
     {
         Price {
-            cents: scaled(u64::from(self.share), i64::from(total), 100).min(real_time.cents),
+            cents: scaled(i64::from(self.share), i64::from(total), 100).min(real_time.cents),
         }
     }
 

@@ -130,7 +130,18 @@ impl Refusal {
             Refusal::AboveSupply { hour, short } => (hour, short),
             Refusal::MissingPrice { hour, quote } => (hour, u64::from(quote)),
             Refusal::TooManyClaims { count, limit } => (count, limit),
-            _ => (0, 0),
+            Refusal::LineTooLong
+            | Refusal::UnknownLetter
+            | Refusal::FieldCount
+            | Refusal::Parties
+            | Refusal::Rates
+            | Refusal::SecondSetUp
+            | Refusal::NotSetUp
+            | Refusal::DayOpen
+            | Refusal::NoDayOpen
+            | Refusal::ShareLists
+            | Refusal::DivisionFigure
+            | Refusal::NoClaims => (0, 0),
         }
     }
 

@@ -8,8 +8,9 @@ use crate::blocks::{Block, DayKind};
 use crate::prices::{HourPrices, Terms};
 use crate::refusal::{Quote, Refusal};
 
-// Asking alters nothing: each call answers the place of a table, and None where the place is missing. A day and an hour
-// are asked for as two figures: as a struct they would be made for each call and taken apart in it, and kept nowhere.
+// Asking alters nothing: each call answers the place of a table, and None where the place is missing. It answers plain
+// figures, since what a source means is told in plain figures all the way up; that they keep their limits is its law. A
+// day and an hour are asked for as two figures: as a struct they would be made for each call and taken apart in it.
 pub trait PriceSource {
     ghost tables: { Self → Tables };
 

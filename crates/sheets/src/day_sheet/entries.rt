@@ -21,7 +21,7 @@ impl<Q: RealTime> DaySheet<Q> {
             day,
             heavy,
             light,
-            hours: [Hour::MISSING; 24],
+            hours: [Hour::default(); 24],
             entered: PhantomData,
         }
     }

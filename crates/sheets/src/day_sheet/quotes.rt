@@ -1,10 +1,10 @@
 // A sheet as a source of prices.
 ghost use Rattle.std.specs.Prelude.{◌≡◌};
-ghost use Rattle.sheets.specs.DaySheets.{sheet_of, tables_of, hour_of};
+ghost use Rattle.sheets.specs.DaySheets.{tables_of, hour_of};
 ghost use Rattle.sheets.specs.SheetLimits.{sheet_limited};
 
 use crate::day_sheet::{DaySheet, Hour};
-use tariff::blocks::Block;
+use tariff::blocks::{Block, place_of};
 use tariff::source::PriceSource;
 
 impl<Q> DaySheet<Q> {
@@ -12,9 +12,9 @@ impl<Q> DaySheet<Q> {
     fn hour(&self, day: u64, hour: u64) -> Hour
         ensures { result ≡ hour_of self.now day hour }
     {
-        match usize::try_from(hour) {
-            Ok(hour @ 1..=24) if day == self.day => self.hours[hour - 1],
-            _ => Hour::MISSING,
+        match place_of(hour) {
+            Some(place) if day == self.day => self.hours[place],
+            _ => Hour::default(),
         }
     }
 }

@@ -1,4 +1,4 @@
-use Rattle.std.proofs.Common.{◌<◌, length, ap, arith}
+use Rattle.std.proofs.Common.{arith}
 use Rattle.std.proofs.lemmas.List.Edits.{fill_by_more}
 use Rattle.rules.specs.LargestRemainder.{remainder, whole_part}
 use Rattle.rules.specs.Counts.{sum_more}
@@ -12,9 +12,8 @@ pub loop-i-preserved : goal.loop-i-preserved
 loop-i-preserved c =
     let d = c.args.division.now in
     let i = c.loop-i.i in
-    let l : i < length d.claims.now = omega (arith, ap length c.claims-claim-items.ensures) in
     record {
-      wholes = rw (c.whole_part-whole.ensures, c.claims-claim-items.ensures) (fill_by_more (whole_part d.total d.claims.now) c.loop-i.shares i 0 (omega arith) c.loop-i.invariant.wholes);
-      rests = rw (c.remainder.ensures, c.claims-claim-items.ensures) (fill_by_more (remainder d.total d.claims.now) c.loop-i.remainders i 0 (omega arith) c.loop-i.invariant.rests);
+      wholes = rw c.whole_part-whole.ensures (fill_by_more (whole_part d.total d.claims.now) c.loop-i.shares i 0 (omega arith) c.loop-i.invariant.wholes);
+      rests = rw c.remainder.ensures (fill_by_more (remainder d.total d.claims.now) c.loop-i.remainders i 0 (omega arith) c.loop-i.invariant.rests);
       left = grind (arith, sum_more, whole_within);
     }

@@ -1,20 +1,18 @@
-use Rattle.std.proofs.Common.{arith, w64, SFits}
-use Rattle.std.proofs.lemmas.Int.{to_z-of_z}
-use Rattle.tariff.proofs.AverageSize.{average_size, sum_kept, sum_size}
+use Rattle.std.proofs.Common.{arith}
+use Rattle.tariff.proofs.AverageSize.{average_kept, average_within, sum_kept, sum_size}
 use Rattle.tariff.proofs.figures.Price.average.Goals as goal
 
 pub nearest_whole-requires-clause-size : goal.nearest_whole-requires-clause-size
 nearest_whole-requires-clause-size c =
-    let size = sum_size c.args.first c.args.second c.args.third c.args.fourth in
-    rw (sum_kept c.args.first c.args.second c.args.third c.args.fourth) (omega arith)
+    let a = c.args in rw (sum_kept a.first a.second a.third a.fourth) (omega (arith, sum_size a.first a.second a.third a.fourth))
 
 pub invariant_of-result : goal.invariant_of-result
 invariant_of-result c =
-    let s : SFits w64 c.nearest_whole.result = record { sfits = c.nearest_whole.type_inv } in
-    let value = rw (sum_kept c.args.first c.args.second c.args.third c.args.fourth) at c.nearest_whole.ensures in
-    record { within = simp to_z-of_z (rw value (average_size c.args.first c.args.second c.args.third c.args.fourth)) }
+    let a = c.args in
+    let e = average_kept a.first a.second a.third a.fourth c.nearest_whole.result (record { sfits = c.nearest_whole.type_inv }) c.nearest_whole.ensures in
+    record { within = rw e (average_within a.first a.second a.third a.fourth) }
 
 pub returns : goal.returns
 returns c =
-    let s : SFits w64 c.nearest_whole.result = record { sfits = c.nearest_whole.type_inv } in
-    simp to_z-of_z (rw (sum_kept c.args.first c.args.second c.args.third c.args.fourth) at c.nearest_whole.ensures)
+    let a = c.args in
+    average_kept a.first a.second a.third a.fourth c.nearest_whole.result (record { sfits = c.nearest_whole.type_inv }) c.nearest_whole.ensures
