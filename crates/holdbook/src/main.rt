@@ -27,7 +27,8 @@ fn priced() -> Result<HourPrices, Refusal>
     price_hour(&sheet, Terms::initial(), DayKind::Workday, 1, 8)
 }
 
-// The holdings in MW by which two offers serve a request.
+// The holdings in MW by which two offers serve a request. The three figures are the caller's: in a struct they would be
+// taken apart at once.
 fn divided<R: DivisionRule>(
     rule: &mut R,
     request: u64,
