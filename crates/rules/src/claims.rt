@@ -12,9 +12,9 @@ const MOST_TOTAL: u64 = 1_000_000_000_000;
 
 const MOST_CLAIM: u64 = 500_000;
 
-// A total and claims that a rule accepts, and what the claims come to. The shares stay beside it: wrapped with them for
-// each call, it would be longer than the clause that there are as many.
-#[derive(Clone, Copy)]
+// A total and claims that a rule accepts, and what the claims come to. The shares are no part of it: a struct made of both
+// for each call would be longer than the clause that there are as many.
+#[derive(Clone, Copy, Debug, PartialEq, Eq)]
 pub(super) struct Admitted<'a> {
     pub(super) total: u64,
     pub(super) claims: &'a [u64],
@@ -27,7 +27,7 @@ pub(super) struct Admitted<'a> {
 }
 
 impl Admitted<'_> {
-    // The whole part of total × claimed / (all claims). Where all claims come to 0, so does the total.
+    // The whole part of total × claimed / (all claims). Where these come to 0, so does the total, and 1 stands for them.
     pub(super) fn whole_part(&self, claimed: u64) -> u64
         requires { claimed ≤ sum self.now.claims.now }
         ensures { result ≡ self.now.total * claimed / sum self.now.claims.now }
@@ -63,7 +63,7 @@ fn total_of(claims: &[u64]) -> u64
 fn above_zero(claims: &[u64]) -> u64
     ensures { result ≡ above_zero claims.now }
 {
-    // usize has no From to u64; as keeps every count.
+    // usize has no From to u64, and try_from would need a case that never comes; as is proved to lose nothing.
     claims.iter().filter(|claim| **claim > 0).count() as u64
 }
 

@@ -13,6 +13,7 @@ use tariff::refusal::Refusal;
 #[derive(Clone, Copy, Debug, Default, PartialEq, Eq)]
 pub struct LargestRemainder;
 
+// An impl belongs to one type, so that each rule has its own.
 impl fmt::Display for LargestRemainder {
     ghost output = { λ _. Some (codes "largest remainder") };
 
@@ -78,7 +79,7 @@ fn share(division: &Admitted, shares: &mut [u64])
     requires { length shares.old ≡ length division.now.claims.now }
     ensures { shares.new ≡ largest division.now.total division.now.claims.now }
 {
-    // Fixed memory, no heap: of the row, beside the caller's shares, only the front is used.
+    // Fixed memory, no heap: a row for as many claims as any rule takes, of which the front is used.
     let mut row = [0; MOST_PLACES];
     let remainders = &mut row[..shares.len()];
     let left = whole_parts(division, shares, remainders);

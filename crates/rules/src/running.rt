@@ -12,6 +12,7 @@ use tariff::refusal::Refusal;
 #[derive(Clone, Copy, Debug, Default, PartialEq, Eq)]
 pub struct RunningTotal;
 
+// An impl belongs to one type, so that each rule has its own.
 impl fmt::Display for RunningTotal {
     ghost output = { λ _. Some (codes "running total") };
 

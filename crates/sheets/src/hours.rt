@@ -21,6 +21,7 @@ impl Hours {
         ensures answer { told result ≡ hours_answer first last }
         ensures value { IfOk result (λ hours. (hours.first ≡ unsigned_abs first) × (hours.last ≡ unsigned_abs last)) }
     {
+        // place_of is for an hour that is asked for; these have a sign, and the last is tested against the first.
         let Ok(first @ 1..=24) = usize::try_from(first) else {
             return Err(Refusal::Hour { position: 1 });
         };

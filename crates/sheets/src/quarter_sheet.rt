@@ -12,7 +12,7 @@ use tariff::refusal::Refusal;
 // The four results stand at positions 3 to 6 of the entry.
 pub type QuarterSheet = DaySheet<[Option<i64>; 4]>;
 
-// The average of four results, missing if one of them is.
+// The average of four results, missing if one of them is: four names, as in `Price::average`.
 fn average(
     first: Option<Price>,
     second: Option<Price>,

@@ -9,7 +9,8 @@ pub enum Cover {
     Uncovered,
 }
 
-// By the first, the second and every later failure day of a year.
+// By the first, the second and every later failure day of a year. Row by row, as the rule's table has them: fields for the
+// days would part the rows.
 const COVERED: [u64; 3] = [5, 10, 20];
 
 const UNCOVERED: [u64; 3] = [25, 50, 50];

@@ -15,8 +15,8 @@ pub(crate) const MOST_PRICE: u64 = 1_000_000;
 
 const MOST_FACTOR: u32 = 100_000;
 
-// A figure of an entry, as it is kept: only within its limits. It is no TryFrom, since that is told by a relation, and an
-// answer by one equation.
+// A figure of an entry, as it is kept: only within its limits. It is no TryFrom, whose contract would be a relation between
+// figure and result, where here an answer is one equation. A position is the call's, a figure the caller's: two figures.
 pub trait Figure: Sized {
     // The limits of what is entered.
     ghost is_within: { ℤ → Bool };
@@ -55,7 +55,7 @@ pub struct Factor {
 }
 
 impl Factor {
-    // The factor of so many ten-thousandths, unless they pass its limit.
+    // The factor of so many ten-thousandths, unless they pass its limit. No TryFrom, for the reason above.
     pub fn new(parts: u64) -> Option<Factor>
         ensures variant { is_some result ≡ is_factor parts }
         ensures value { IfSome result (λ factor. factor.parts ≡ parts) }

@@ -1,5 +1,5 @@
-// The tariff of a capacity-sharing pool: refusals, blocks of hours, settlement prices, delivery factors, and what price
-// sources and division rules are.
+// The tariff of a capacity-sharing pool: refusals, blocks of hours, figures within their limits, settlement prices, delivery
+// factors, and what price sources and division rules are.
 #![tactic(auto)]
 
 pub mod blocks;

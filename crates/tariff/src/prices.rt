@@ -15,8 +15,8 @@ pub struct Terms {
     pub share: u16,
 }
 
-// What a buyer pays for each MW held and each MWh delivered, and both together. It prints nothing itself: its text could
-// not be promised, as the proof that signed fields behind a reference fit their type does not close.
+// What a buyer pays for each MW held and each MWh delivered, and both together. It has no Display: its text could not be
+// promised, as the proof that signed fields behind a reference fit their type does not close.
 #[derive(Clone, Copy, Debug, PartialEq, Eq)]
 pub struct HourPrices {
     pub total: i64,
@@ -98,7 +98,7 @@ impl Terms {
         ensures { pos result ≡ total_price self day_ahead.cents factor.parts }
     {
         let exact = scaled(self.multiplier(factor), day_ahead.cents, 1_000_000);
-        // There is no From to u32; as is proved to lose nothing.
+        // i64 has no From to u32, and try_from would need a case that never comes; as is proved to lose nothing.
         exact.clamp(0, i64::from(self.cap)) as u32
     }
 
