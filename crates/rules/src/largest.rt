@@ -1,5 +1,5 @@
 // Largest remainder: each claim gets its whole part, and the units left go singly to the largest remainders.
-ghost use Rattle.std.specs.Prelude.{◌≡◌, ◌==◌, ◌&&◌, ◌||◌, ℕ, ◌+◌, ◌^◌, ◌<◌, if◌then◌else◌, Some, codes, length, nat_lt, slice_index};
+ghost use Rattle.std.specs.Prelude.{◌≡◌, ℕ, ◌+◌, ◌^◌, ◌<◌, if◌then◌else◌, Some, codes, length, nat_lt, slice_index};
 ghost use Rattle.tariff.specs.Division.{Unmoved};
 ghost use Rattle.rules.specs.LargestRemainder.{largest, rank_of, remainder, units_left, whole_part};
 ghost use Rattle.rules.specs.LargestLaw.{largest_lawful};

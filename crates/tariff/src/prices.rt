@@ -62,7 +62,7 @@ impl Price {
     }
 }
 
-// The same of plain figures, or a refusal that names the first outside its limits.
+// The average of four plain figures, or a refusal that names the first outside its limits.
 pub fn average(first: i64, second: i64, third: i64, fourth: i64) -> Result<i64, Refusal>
     ensures value { Gives (average_answer first second third fourth) (average_price first second third fourth) result }
     ensures size { IfOk result (λ price. unsigned_abs price ≤ 1000000) }
