@@ -1,3 +1,2 @@
 pub mod Sessions
 pub mod Examples
-pub mod WorkedSessions

@@ -1,21 +1,21 @@
 -- The calls of worked sessions, and what they come to. Assumes nothing.
-use Rattle.std.specs.Prelude.{ℕ, List, [], ◌∷◌, map, ℤ, pos, neg_ℤ}
+use Rattle.std.specs.Prelude.{ℕ, List, [], ◌∷◌, map, ℤ, pos, neg_ℤ, Some, None}
 use Rattle.std.specs.List.{range_with_len}
 use Rattle.tariff.specs.Answers.{Answer}
+use Rattle.tariff.specs.Tables.{Tables}
 use Rattle.tariff.specs.declared.blocks.DayKind.TheVariants.{Workday}
 use Rattle.tariff.specs.declared.charges.Cover.TheVariants.{Covered}
 use Rattle.rules.specs.LargestRemainder.{largest}
-use Rattle.tally.specs.DayPrices.{hour_at}
 use Rattle.tally.specs.Denials.{answer}
 use Rattle.tally.specs.Events.{Event, open_day, enter_result, enter_offer, enter_request, allot_hour, deploy, enter_miss, close_day}
-use Rattle.tally.specs.States.{SetUp}
+use Rattle.tally.specs.States.{SetUp, hour_at}
 use Rattle.tally.specs.Statements.{due}
 use Rattle.tally.specs.Tally.{tallied}
-use Rattle.tally.specs.WorkedDay.{day_tables}
+use Rattle.tally.specs.WorkedPool.{day_tables, by_hour}
 
--- in every list the newest call stands first
-abbrev pub three : SetUp
-three = record { parties = 3; full = 10000000; step = 1530200 }
+-- a pool of three parties; in every list of calls the newest stands first
+abbrev pub pool : SetUp
+pool = record { parties = 3; full = 10000000; step = 1530200 }
 
 abbrev pub allot : Event
 allot = allot_hour (pos 8) 10 largest
@@ -34,10 +34,10 @@ offering mw =
 
 -- what the allot then answers, and the holdings of parties 1 and 2 after it
 abbrev pub allot_answered : ℕ → Answer
-allot_answered mw = answer (tallied three (offering mw)).state allot
+allot_answered mw = answer (tallied pool (offering mw)).state allot
 
 abbrev pub holdings_after : List Event → List ℕ
-holdings_after events = map (hour_at (tallied three events).state 8).holdings (range_with_len 1 2)
+holdings_after events = map (hour_at (tallied pool events).state 8).holdings (range_with_len 1 2)
 
 -- results 30, 20 and −25 in hour 8
 abbrev pub reporting : List Event
@@ -64,6 +64,13 @@ deploying =
 abbrev pub missing : List Event
 missing = enter_miss (pos 8) (pos 1) (pos 3) (pos 2) Covered ∷ deploying
 
+-- the prices of the worked day, with none of the night's in real time
+abbrev pub session_tables : Tables
+session_tables = record day_tables {
+  real_time = λ day hour. by_hour (Some (pos 4000)) None hour;
+  factor = λ day hour. by_hour (Some 12000) None hour;
+}
+
 -- what is due to an account after the day's close
 abbrev pub due_after : List Event → ℕ → ℤ
-due_after events account = due 3 (tallied three (close_day day_tables 10 (λ turn. largest) 144 144 ∷ events)).statements account
+due_after events account = due 3 (tallied pool (close_day session_tables 10 (λ turn. largest) 144 144 ∷ events)).statements account

@@ -1,15 +1,10 @@
-// The worked examples, as theorems about the definitions.
+// The worked examples, as one theorem about the definitions.
 #![tactic(auto)]
 
 ghost use Rattle.examples.specs.Examples.{Examples};
-ghost use Rattle.examples.specs.WorkedSessions.{WorkedSessions};
 
-// The worked examples follow from the definitions of prices and divisions.
+// The worked examples of prices, division, allotment, settlement and charges follow from the definitions, and so does a
+// session from its calls to what is due.
 pub fn examples_hold()
     ensures { Examples }
-{}
-
-// So do those of allotment and settlement, and a session from its calls to what is due.
-pub fn sessions_hold()
-    ensures { WorkedSessions }
 {}

@@ -1,5 +1,5 @@
 -- Sums and counts over lists, and over the places below n. Assumes nothing.
-use Rattle.std.specs.Prelude.{◌≡◌, ℕ, zero, suc, ◌+◌, ◌*◌, ◌<◌, ◌≤◌, Bool, true, false, cond, List, [], ◌∷◌, map, sum, sum_by, count_by, refl}
+use Rattle.std.specs.Prelude.{◌≡◌, ℕ, zero, suc, ◌+◌, ◌*◌, ◌<◌, ◌≤◌, Bool, true, false, if◌then◌else◌, List, [], ◌∷◌, map, sum, sum_by, count_by, refl}
 use Rattle.std.proofs.Common.{⊎_elim, sym, subst, ap, ◌∙◌, add-mul, add-one, arith}
 use Rattle.std.specs.List.{range_with_len}
 use Rattle.std.proofs.lemmas.List.FromFn.{length-range_with_len, sum_by-map-range_with_len_more, take-map-range_with_len}
@@ -39,7 +39,7 @@ sum_none f xs h = fold_stays (λ a i. a + f i) 0 (λ i. omega (arith, h i)) xs
 
 -- what a place adds to a count
 abbrev pub one_if : Bool → ℕ
-one_if b = cond b 1 0
+one_if b = if b then 1 else 0
 
 one_if_le : (a b : Bool) → (a ≡ true → b ≡ true) → one_if a ≤ one_if b
 one_if_le false b h = omega arith

@@ -1,5 +1,5 @@
 -- What a sheet holds. Assumes nothing.
-use Rattle.std.specs.Prelude.{ℕ, ◌-◌, cond, ◌&&◌, None, ◌==◌, slice_index_or}
+use Rattle.std.specs.Prelude.{ℕ, ◌-◌, if◌then◌else◌, ◌&&◌, None, ◌==◌, slice_index_or}
 use Rattle.tariff.specs.Blocks.{is_hour}
 use Rattle.tariff.specs.Tables.{Tables}
 use Rattle.sheets.specs.Kept.{cents_of, parts_of}
@@ -13,7 +13,7 @@ missing = record { real_time = None; factor = None }
 
 -- what stands for an hour of a day; other days, and hours outside the day, have no figure
 abbrev pub hour_of : {Q : Type 0} → DaySheet Q → ℕ → ℕ → Hour
-hour_of sheet day hour = cond (day == sheet.day && is_hour hour) (slice_index_or sheet.hours (hour - 1) missing) missing
+hour_of sheet day hour = if day == sheet.day && is_hour hour then slice_index_or sheet.hours (hour - 1) missing else missing
 
 -- the sheet's own day has the figures that stand on it, every other day is missing
 abbrev pub sheet_of : {Q : Type 0} → DaySheet Q → Sheet
@@ -21,7 +21,7 @@ sheet_of sheet =
     record {
       day = sheet.day;
       tables = record {
-        day_ahead = λ day block. cond (day == sheet.day) (block_price (cents_of sheet.heavy) (cents_of sheet.light) block) None;
+        day_ahead = λ day block. if day == sheet.day then block_price (cents_of sheet.heavy) (cents_of sheet.light) block else None;
         real_time = λ day hour. cents_of (hour_of sheet day hour).real_time;
         factor = λ day hour. parts_of (hour_of sheet day hour).factor;
       };

@@ -1,5 +1,5 @@
 -- The real-time price of an hour from its four quarter-hour results. Assumes nothing.
-use Rattle.std.specs.Prelude.{ℕ, cond, List, length, ℤ, Some, None, Option, ◌==◌, slice_index_or}
+use Rattle.std.specs.Prelude.{ℕ, if◌then◌else◌, List, length, ℤ, Some, None, Option, ◌==◌, slice_index_or}
 use Rattle.tariff.specs.Answers.{Answer, require, ◌then◌}
 use Rattle.tariff.specs.Prices.{average_price}
 use Rattle.sheets.specs.Sheets.{price_within}
@@ -19,7 +19,7 @@ quarter quarters k = slice_index_or quarters k None
 -- the average of a list of quarters, which has four or no average
 abbrev pub average_of : List (Option ℤ) → Option ℤ
 average_of quarters =
-    cond (length quarters == 4) (average (quarter quarters 0) (quarter quarters 1) (quarter quarters 2) (quarter quarters 3)) None
+    if length quarters == 4 then average (quarter quarters 0) (quarter quarters 1) (quarter quarters 2) (quarter quarters 3) else None
 
 -- the four prices stand at positions 3 to 6 of their entry
 abbrev pub quarters_answer : List (Option ℤ) → Answer

@@ -1,7 +1,7 @@
 -- What the sheets of prices hold and how entries fill them. Assumes nothing.
-use Rattle.std.specs.Prelude.{ℕ, Bool, cond, ◌&&◌, ℤ, Some, None, Option, ◌==◌, int_le, nat_le, unsigned_abs}
+use Rattle.std.specs.Prelude.{ℕ, Bool, if◌then◌else◌, ◌&&◌, ℤ, Some, None, Option, ◌==◌, int_le, nat_le, unsigned_abs}
 use Rattle.tariff.specs.Answers.{Answer, require, ◌then◌}
-use Rattle.tariff.specs.Blocks.{hours_of_day}
+use Rattle.tariff.specs.Blocks.{hours_of_day, last_day}
 use Rattle.tariff.specs.Figures.{between, or_missing}
 use Rattle.tariff.specs.Prices.{is_price, most_factor}
 use Rattle.tariff.specs.Tables.{Tables}
@@ -24,7 +24,7 @@ factor_kept (Some factor) = Some (unsigned_abs factor)
 -- the entry of a day with its heavy and light day-ahead price: the figures in order
 abbrev pub day_answer : ℤ → Option ℤ → Option ℤ → Answer
 day_answer day heavy light =
-    require (between 1 4000 day) (Day 1)
+    require (between 1 last_day day) (Day 1)
     then require (price_within heavy) (Figure 2)
     then require (price_within light) (Figure 3)
 
@@ -58,7 +58,7 @@ opened day heavy light =
     record {
       day = day;
       tables = record {
-        day_ahead = λ d block. cond (d == day) (block_price heavy light block) None;
+        day_ahead = λ d block. if d == day then block_price heavy light block else None;
         real_time = λ d hour. None;
         factor = λ d hour. None;
       };
@@ -75,8 +75,8 @@ filled first last price factor sheet =
       day = sheet.day;
       tables = record {
         day_ahead = sheet.tables.day_ahead;
-        real_time = λ d hour. cond (among sheet.day first last d hour) price (sheet.tables.real_time d hour);
-        factor = λ d hour. cond (among sheet.day first last d hour) factor (sheet.tables.factor d hour);
+        real_time = λ d hour. if among sheet.day first last d hour then price else sheet.tables.real_time d hour;
+        factor = λ d hour. if among sheet.day first last d hour then factor else sheet.tables.factor d hour;
       };
     }
 

@@ -8,13 +8,13 @@ use Rattle.tariff.specs.declared.blocks.Block.{Block}
 use Rattle.tariff.specs.declared.charges.Cover.{Cover}
 use Rattle.tariff.specs.declared.charges.Cover.TheVariants.{Covered, Uncovered}
 use Rattle.tally.specs.Charges.{charge, cut_charge, pool_part, buyer_part}
-use Rattle.tally.specs.DayPrices.{DayPrices, hour_at, needed_prices, prices_of}
-use Rattle.tally.specs.Laws.{OnlyPartiesPay}
+use Rattle.tally.specs.DayPrices.{DayPrices, needed_prices, prices_of}
+use Rattle.tally.specs.AccountLaws.{OnlyPartiesPay}
 use Rattle.tally.specs.MakeWhole.{largest_pair, make_whole_share, sharing_answer, turn}
 use Rattle.tally.specs.Numbered.{listed, numbered}
 use Rattle.tally.specs.Pairs.{pair, delivered}
 use Rattle.tally.specs.Settlement.{block_total, largest_holding, holdback, energy, settlement, make_whole}
-use Rattle.tally.specs.States.{State}
+use Rattle.tally.specs.States.{State, hour_at}
 use Rattle.tally.specs.Tally.{tallied}
 use Rattle.tally.proofs.BlockHours.{block_zero, block_greatest_bound}
 use Rattle.tally.proofs.Findings.{close_found}
@@ -110,7 +110,7 @@ module _ (state : State) (sound : Sound state) (prices : DayPrices) (most : ℕ)
       (λ (h : state.set_up.parties < seller). rw (make_whole_absent state sound prices block seller h) refl)
       (λ (h : seller ≤ state.set_up.parties).
       share_absent most (make_whole state prices block seller) state.set_up.parties (largest_pair state block seller)
-      (meanings (turn state.set_up.parties block seller)) buyer (lawful (turn state.set_up.parties block seller)) l
+      (meanings (turn state block seller)) buyer (lawful (turn state block seller)) l
       (eqb (make_whole state prices block seller) 0) (granted? h))
       (cases_lt state.set_up.parties seller)
 

@@ -2,7 +2,7 @@
 use Rattle.std.proofs.Common.{◌≡◌, ℕ, zero, suc, ◌<◌, ◌≤◌, List, [], ◌∷◌, ℤ, pos, ◌+ℤ◌, ◌-ℤ◌, sym, refl, ap, ◌∙◌, ap₂, arith}
 use Rattle.std.proofs.lemmas.Int.{ints}
 use Rattle.tariff.specs.declared.blocks.Block.TheVariants.{Heavy, Light}
-use Rattle.tally.specs.Laws.{AccountsBalance, all_accounts}
+use Rattle.tally.specs.AccountLaws.{AccountsBalance, all_accounts}
 use Rattle.tally.specs.Numbered.{total_z}
 use Rattle.tally.specs.Statements.{Statement, Payment, buyer_pays, seller_pays, of_seller, of_buyer, paid_to, taken_from, net, due}
 use Rattle.tally.specs.Tally.{tallied}

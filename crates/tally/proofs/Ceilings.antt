@@ -1,16 +1,16 @@
 -- The ceiling grows with the monthly misses, so it never falls within a year. Assumes nothing.
 use Rattle.std.proofs.Common.{◌≡◌, ℕ, ◌+◌, ◌-◌, ◌*◌, ◌<◌, ◌≤◌, refl, add-mul, mul-le-mul_left, arith}
 use native.Mathlib.Nat.{mul-sub}
-use Rattle.tally.specs.Charges.{ceiling_of, months_of_year}
-use Rattle.tally.specs.Events.{Event, open_day, enter_result, enter_offer, enter_request, allot_hour, deploy, enter_miss, close_day, void_day, start_year}
-use Rattle.tally.specs.Laws.{CeilingNeverFalls}
+use Rattle.tally.specs.Charges.{ceiling_of}
+use Rattle.tally.specs.Events.{Event, start_year}
+use Rattle.tally.specs.ChargeLaws.{CeilingNeverFalls}
 use Rattle.tally.specs.Numbered.{total, greatest}
 use Rattle.tally.specs.Denials.{answer}
-use Rattle.tally.specs.States.{State, SetUp, Proper}
+use Rattle.tally.specs.States.{State, SetUp, Proper, months_of_year}
 use Rattle.tally.specs.Tally.{done, step, tallied}
 use Rattle.tally.proofs.Numbering.{total_le, greatest_le, greatest_le_total}
 use Rattle.tally.proofs.SetUps.{step_within_full}
-use Rattle.tally.proofs.Steps.{if_granted_has}
+use Rattle.tally.proofs.Steps.{if_granted_has, step_set_up, tallied_set_up}
 
 -- all at the step rate, and the largest at as much more as the full rate is above it
 rates_apart : (full step largest all : ℕ) → step ≤ full → largest ≤ all → full * largest + step * (all - largest) ≡ step * all + (full - step) * largest
@@ -38,22 +38,13 @@ ceiling_le set_up proper f g h =
 -- only a close changes a year's misses, and to none that is below
 misses_grow : (state : State) (event : Event) → (event ≡ start_year → ⊥) → (seller month : ℕ) →
     state.year.misses seller month ≤ (done state event).year.misses seller month
-misses_grow state (open_day day kind month) n seller m = omega arith
-misses_grow state (enter_result hour party mw) n seller m = omega arith
-misses_grow state (enter_offer hour party mw) n seller m = omega arith
-misses_grow state (enter_request hour party mw) n seller m = omega arith
-misses_grow state (allot_hour hour most meaning) n seller m = omega arith
-misses_grow state (deploy hour buyer mw most meaning) n seller m = omega arith
-misses_grow state (enter_miss hour seller' buyer mwh cover) n seller m = omega arith
-misses_grow state (close_day tables most meanings heavy_page light_page) n seller m = omega arith
-misses_grow state void_day n seller m = omega arith
 misses_grow state start_year n seller m = absurd (n refl)
+misses_grow state _ n seller m = omega arith
 
 pub ceiling_never_falls_lem : CeilingNeverFalls
 ceiling_never_falls_lem set_up events proper lawful event n seller =
-    ceiling_le set_up proper (state.year.misses seller) ((step state event).year.misses seller)
+    let state = (tallied set_up events).state in
+    rw (step_set_up state event)
+    (ceiling_le state.set_up (rw (tallied_set_up set_up events) proper) (state.year.misses seller) ((step state event).year.misses seller)
     (λ k _ _. if_granted_has (λ (s : State). state.year.misses seller k ≤ s.year.misses seller k) (answer state event) (done state event) state
-    (λ _. misses_grow state event n seller k) (omega arith))
-  where
-    state : State
-    state = (tallied set_up events).state
+    (λ ok. misses_grow state event (λ e. n e ok) seller k) (omega arith)))

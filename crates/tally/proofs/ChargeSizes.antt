@@ -8,9 +8,9 @@ use Rattle.tariff.specs.declared.charges.Cover.{Cover}
 use Rattle.tariff.specs.declared.charges.Cover.TheVariants.{Covered, Uncovered}
 use Rattle.tally.proofs.Products.{product_le}
 use Rattle.tally.specs.Charges.{charge, cut_charge, failure_days}
-use Rattle.tally.specs.DayPrices.{DayPrices, hour_at, in_block, day_ahead_at}
+use Rattle.tally.specs.DayPrices.{DayPrices, in_block, day_ahead_at}
 use Rattle.tally.specs.Numbered.{total, total_z, positive_part}
-use Rattle.tally.specs.States.{State}
+use Rattle.tally.specs.States.{State, hour_at}
 use Rattle.tally.proofs.MakeWholeSize.{total_times}
 use Rattle.tally.proofs.Numbering.{add_size, total_more, total_le, total_z_none, total_z_more, total_z_bound, total_z_swap}
 use Rattle.tally.proofs.PriceSizes.{SmallPrices, charged_price_size}

@@ -1,19 +1,19 @@
 -- A seller's charges on the statements of a year are those of its state, and stay within the ceiling. Assumes nothing.
 use Rattle.std.proofs.Common.{◌≡◌, ℕ, ◌≤◌, cond, List, [], ◌∷◌, ◌++◌, ℤ, pos, ◌+ℤ◌, sym, refl, ap, ◌∙◌, ap₂, arith}
 use Rattle.tariff.specs.Answers.{Answer, granted, denied, if_granted}
-use Rattle.tariff.specs.Blocks.{block_of, hours_of_day}
+use Rattle.tariff.specs.Blocks.{block_of, hours_of_day, same_block}
 use Rattle.tariff.specs.Division.{Division}
 use Rattle.tariff.specs.declared.blocks.Block.{Block}
 use Rattle.tariff.specs.declared.blocks.Block.TheVariants.{Heavy, Light}
 use Rattle.tariff.specs.declared.charges.Cover.{Cover}
 use Rattle.tariff.specs.declared.charges.Cover.TheVariants.{Covered, Uncovered}
 use Rattle.tally.specs.Charges.{ceiling_of, cut_charge, month_miss, pool_part, buyer_part}
-use Rattle.tally.specs.DayPrices.{DayPrices, hour_at, in_block, needed_prices, same_block}
-use Rattle.tally.specs.Events.{Event, open_day, enter_result, enter_offer, enter_request, allot_hour, deploy, enter_miss, close_day, void_day, start_year}
-use Rattle.tally.specs.Laws.{ChargesWithinCeiling}
+use Rattle.tally.specs.DayPrices.{DayPrices, in_block, needed_prices}
+use Rattle.tally.specs.Events.{Event, close_day, start_year}
+use Rattle.tally.specs.ChargeLaws.{ChargesWithinCeiling}
 use Rattle.tally.specs.Numbered.{total, total_z}
 use Rattle.tally.specs.Denials.{answer}
-use Rattle.tally.specs.States.{State, SetUp, Proper}
+use Rattle.tally.specs.States.{State, SetUp, Proper, hour_at}
 use Rattle.tally.specs.Statements.{Statement, statement_of, of_seller, seller_pays, charges_of}
 use Rattle.tally.specs.Tally.{done, stated, kept_of_year, tallied}
 use Rattle.tally.specs.Years.{day_charges}
@@ -28,21 +28,14 @@ Within seller state = state.year.charges seller ≤ ceiling_of state.set_up (sta
 
 -- a close charges no more than the ceiling still allows, and the ceiling has not fallen
 done_within : (seller : ℕ) (state : State) (event : Event) → Proper state.set_up → Within seller state → Within seller (done state event)
-done_within seller state (open_day day kind month) proper w = w
-done_within seller state (enter_result hour party mw) proper w = w
-done_within seller state (enter_offer hour party mw) proper w = w
-done_within seller state (enter_request hour party mw) proper w = w
-done_within seller state (allot_hour hour most meaning) proper w = w
-done_within seller state (deploy hour buyer mw most meaning) proper w = w
-done_within seller state (enter_miss hour s buyer mwh cover) proper w = w
 done_within seller state (close_day tables most meanings heavy_page light_page) proper w =
     omega (
       arith,
       day_charges_within state (needed_prices state tables) seller,
       ceiling_le state.set_up proper (state.year.misses seller) (month_miss state seller) (λ k _ _. omega arith),
     )
-done_within seller state void_day proper w = w
 done_within seller state start_year proper w = omega arith
+done_within seller state _ proper w = w
 
 tallied_within : (seller : ℕ) (set_up : SetUp) (events : List Event) → Proper set_up → Within seller (tallied set_up events).state
 tallied_within seller set_up [] proper = omega arith
@@ -115,17 +108,10 @@ Counted seller state statements = charges_of state.set_up.parties statements sel
 -- a close adds the same to both, and the start of a year sets both to 0
 done_counted : (seller : ℕ) (state : State) (event : Event) (statements : List Statement) → Counted seller state statements →
     Counted seller (done state event) (stated state event ++ kept_of_year event statements)
-done_counted seller state (open_day day kind month) statements c = c
-done_counted seller state (enter_result hour party mw) statements c = c
-done_counted seller state (enter_offer hour party mw) statements c = c
-done_counted seller state (enter_request hour party mw) statements c = c
-done_counted seller state (allot_hour hour most meaning) statements c = c
-done_counted seller state (deploy hour buyer mw most meaning) statements c = c
-done_counted seller state (enter_miss hour s buyer mwh cover) statements c = c
 done_counted seller state (close_day tables most meanings heavy_page light_page) statements c =
     ap₂ ◌+ℤ◌ (statement_charges state (needed_prices state tables) meanings seller) c ∙ ap pos (omega arith)
-done_counted seller state void_day statements c = c
 done_counted seller state start_year statements c = refl
+done_counted seller state _ statements c = c
 
 -- granted or denied, the state and the statements of the year keep together
 tell_counted : (seller : ℕ) (a : Answer) (new old : State) (made kept before : List Statement) →

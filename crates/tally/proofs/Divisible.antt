@@ -1,16 +1,17 @@
--- Of a rule's refusals only that for too many claims can come out of a call. Assumes nothing.
-use Rattle.std.proofs.Common.{◌≡◌, ℕ, ◌+◌, ◌-◌, ◌<◌, ◌≤◌, Bool, true, false, cond, refl, inl, inr, ⊎_elim, arith}
-use Rattle.std.proofs.lemmas.Bool.{cases_lt, leb-true}
+-- What is handed to a rule lies within its limits, so that of its refusals only that for too many claims comes out of a call. Assumes nothing.
+use Rattle.std.proofs.Common.{◌≡◌, ℕ, ◌+◌, ◌-◌, ◌<◌, ◌≤◌, Bool, true, false, cond, refl, arith}
+use Rattle.std.proofs.lemmas.Bool.{leb-true}
 use Rattle.std.proofs.lemmas.Bool.Decides.{nat_tests}
 use Rattle.tariff.specs.Answers.{granted}
 use Rattle.tally.specs.Allotment.{counted_offer, surplus, requested, offered, spare, offers_suffice, supply_answer, allot_total, allot_claims}
-use Rattle.tally.specs.DayPrices.{hour_at}
 use Rattle.tally.specs.Hours.{Hour}
-use Rattle.tally.specs.Laws.{OnlyCounted, OnlyClaimCountsRefused, Divisible}
+use Rattle.tally.specs.RuleLaws.{Handed, HandsOver, HandedWithinLimits, OnlyClaimCountsRefused}
 use Rattle.tally.specs.Numbered.{total, listed}
 use Rattle.tally.specs.Pairs.{pair, pairs_of}
-use Rattle.tally.specs.States.{State}
-use Rattle.tally.proofs.Divisions.{only_counted, all_within_listed, make_wholes_divisible}
+use Rattle.tally.specs.States.{State, hour_at}
+use Rattle.tally.specs.Tally.{tallied}
+use Rattle.tally.proofs.Divisions.{all_within_listed, make_wholes_divisible}
+use Rattle.tally.proofs.Refusing.{answers_late}
 use Rattle.tally.proofs.Numbering.{length_listed, sum_listed, total_bound}
 use Rattle.tally.proofs.Overlaps.{buyers_filled, sellers_filled}
 use Rattle.tally.proofs.SetUps.{few_parties}
@@ -19,23 +20,27 @@ use Rattle.tally.proofs.Sound.{Sound, sound}
 use Rattle.tally.proofs.SoundHours.{SoundHour}
 
 -- a total of claims that are small
-divided : (f : ℕ → ℕ) (n t : ℕ) → n ≤ 12 → t ≤ 1000000000000 → t ≤ total f n → ((k : ℕ) → f k ≤ 500000) → OnlyCounted t (listed f n) n
-divided f n t few small claimed within =
-    only_counted t (listed f n) n (length_listed f n) few small (all_within_listed f n (λ k _ _. within k))
-    (⊎_elim (λ (h : 0 < t). inr (omega (arith, sum_listed f n))) (λ (h : t ≤ 0). inl (omega arith)) (cases_lt 0 t))
+divided : (f : ℕ → ℕ) (n t : ℕ) → n ≤ 12 → t ≤ 1000000000000 → t ≤ total f n → ((k : ℕ) → f k ≤ 500000) → Handed t (listed f n) n
+divided f n t few small claimed within = record {
+  equal = length_listed f n;
+  few = few;
+  small = small;
+  within = all_within_listed f n (λ k _ _. within k);
+  claimed = λ h. omega (arith, sum_listed f n);
+}
 
 module _ (n number : ℕ) (hour : Hour) (sound : SoundHour n hour) (few : n ≤ 12) where
   requested_size : requested n hour ≤ 60000
   requested_size = let b = total_bound hour.requests 5000 n (λ k _ _. (sound.requests k).0) in omega arith
 
-  allot_divided : supply_answer n number hour ≡ granted → OnlyCounted (allot_total n hour) (allot_claims n hour) n
+  allot_divided : supply_answer n hour number ≡ granted → Handed (allot_total n hour) (allot_claims n hour) n
   allot_divided ok = by (offers_suffice n hour) refl
     where
       supplied : requested n hour ≤ offered n hour + spare n hour
       supplied = grind (arith, nat_tests)
 
       by : (b : Bool) → offers_suffice n hour ≡ b
-          → OnlyCounted (cond b (requested n hour) (requested n hour - offered n hour)) (cond b (listed (counted_offer hour) n) (listed (surplus hour) n)) n
+          → Handed (cond b (requested n hour) (requested n hour - offered n hour)) (cond b (listed (counted_offer hour) n) (listed (surplus hour) n)) n
       by true e =
           divided (counted_offer hour) n (requested n hour) few (omega (arith, requested_size)) (leb-true _ _ e)
           (λ k. let s = counted_size n hour sound k in omega arith)
@@ -43,7 +48,7 @@ module _ (n number : ℕ) (hour : Hour) (sound : SoundHour n hour) (few : n ≤ 
           divided (surplus hour) n (requested n hour - offered n hour) few (omega (arith, requested_size)) (omega (arith, supplied))
           (λ k. let s = surplus_size n hour sound k in omega arith)
 
-  deploy_divided : hour.allotted ≡ true → (buyer mw : ℕ) → 0 < buyer → buyer ≤ n → mw ≤ hour.requests buyer → OnlyCounted mw (pairs_of n hour buyer) n
+  deploy_divided : hour.allotted ≡ true → (buyer mw : ℕ) → 0 < buyer → buyer ≤ n → mw ≤ hour.requests buyer → Handed mw (pairs_of n hour buyer) n
   deploy_divided is buyer mw is_buyer known within =
       divided (λ s. pair hour s buyer) n mw few (let s = (sound.requests buyer).0 in omega arith)
       (omega (arith, buyers_filled hour n (sound.sums is) buyer is_buyer known))
@@ -57,8 +62,8 @@ module _ (n number : ℕ) (hour : Hour) (sound : SoundHour n hour) (few : n ≤ 
       by true is = sellers_filled hour n (sound.sums is) seller is_seller known
       by false isnt = omega (arith, pairs_within hour seller n, sound.unheld isnt seller)
 
-divisible : (state : State) → Sound state → Divisible state
-divisible state sound =
+hands_over : (state : State) → Sound state → HandsOver state
+hands_over state sound =
     let few = few_parties state.set_up sound.proper in
     record {
       allots = λ hour. allot_divided state.set_up.parties hour (hour_at state hour) (sound.hours hour) few;
@@ -67,5 +72,10 @@ divisible state sound =
           (λ hour seller (is_seller, known). pairs_meet_holdings state.set_up.parties hour (hour_at state hour) (sound.hours hour) few seller is_seller known);
     }
 
+pub handed_within_limits_lem : HandedWithinLimits
+handed_within_limits_lem set_up events proper lawful = hands_over _ (sound set_up events proper lawful)
+
 pub only_claim_counts_refused_lem : OnlyClaimCountsRefused
-only_claim_counts_refused_lem set_up events proper lawful = divisible _ (sound set_up events proper lawful)
+only_claim_counts_refused_lem set_up events proper lawful event ruled =
+    let state = (tallied set_up events).state in
+    (answers_late state (hands_over state (sound set_up events proper lawful)) event ruled).late

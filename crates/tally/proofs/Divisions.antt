@@ -3,16 +3,18 @@ use Rattle.std.proofs.Common.{◌≡◌, ℕ, suc, ◌<◌, ◌≤◌, true, leb
 use lib.IntN.{zero-*ℤ}
 use Rattle.std.proofs.lemmas.Bool.{and_from, cases_lt, le-leb}
 use Rattle.std.proofs.lemmas.Bool.Decides.{nat_tests}
-use Rattle.tariff.specs.Division.{all_within}
+use Rattle.tariff.specs.Answers.{Answer, require}
+use Rattle.tariff.specs.Division.{all_within, above_zero, division_answer}
+use Rattle.tariff.specs.declared.refusal.Refusal.TheVariants.{TooManyClaims}
 use Rattle.tariff.specs.Tables.{Tables, Limited}
 use Rattle.tariff.specs.declared.blocks.Block.{Block}
-use Rattle.tally.specs.DayPrices.{DayPrices, hour_at, needed_prices, prices_of}
-use Rattle.tally.specs.Laws.{OnlyCounted}
+use Rattle.tally.specs.DayPrices.{DayPrices, needed_prices, prices_of}
+use Rattle.tally.specs.RuleLaws.{Handed}
 use Rattle.tally.specs.MakeWhole.{largest_pair, make_whole_claims}
 use Rattle.tally.specs.Numbered.{total, listed}
 use Rattle.tally.specs.Pairs.{pair, delivered}
 use Rattle.tally.specs.Settlement.{block_greatest, largest_holding, holdback, energy, settlement, make_whole}
-use Rattle.tally.specs.States.{State, IsParty}
+use Rattle.tally.specs.States.{State, IsParty, hour_at}
 use Rattle.tally.proofs.BlockHours.{IsHourIn, block_zero, block_greatest_bound, le_block_greatest}
 use Rattle.tally.proofs.MakeWholeSize.{make_whole_size}
 use Rattle.tally.proofs.Numbering.{total_zero, term_le, total_z_zero, length_listed, slice_index_listed, sum_listed}
@@ -23,10 +25,17 @@ use Rattle.tally.proofs.Sizes.{pair_size}
 use Rattle.tally.proofs.Sound.{Sound}
 
 -- a division within its limits is refused for the count of its claims alone
-pub only_counted : (total : ℕ) (claims : List ℕ) (places : ℕ) → length claims ≡ places → places ≤ 12 → total ≤ 1000000000000
-    → all_within claims ≡ true → (total ≡ 0) ⊎ (0 < sum claims) → OnlyCounted total claims places
-only_counted total claims places e few small within (inl z) most = grind (arith, nat_tests)
-only_counted total claims places e few small within (inr h) most = grind (arith, nat_tests)
+abbrev pub count_answer : ℕ → List ℕ → Answer
+count_answer most claims = require (leb (above_zero claims) most) (TooManyClaims (above_zero claims) most)
+
+pub only_counted : (total : ℕ) (claims : List ℕ) (places most : ℕ) → Handed total claims places → division_answer most total claims places ≡ count_answer most claims
+only_counted total claims places most handed =
+    by (cases_lt 0 total) handed.equal handed.few handed.small handed.within handed.claimed
+  where
+    by : (0 < total) ⊎ (total ≤ 0) → length claims ≡ places → places ≤ 12 → total ≤ 1000000000000 → all_within claims ≡ true → (0 < total → 0 < sum claims)
+        → division_answer most total claims places ≡ count_answer most claims
+    by (inl l) e few small within claimed = let h = claimed l in grind (arith, nat_tests)
+    by (inr l) e few small within claimed = let z : total ≡ 0 = omega arith in grind (arith, nat_tests)
 
 pub all_within_by_place : (claims : List ℕ) → ((i : ℕ) → i < length claims → get_or claims i 0 ≤ 500000) → all_within claims ≡ true
 all_within_by_place [] h = refl
@@ -89,16 +98,18 @@ module _ (state : State) (sound : Sound state) (block : Block) (seller : ℕ) wh
 pub make_wholes_divisible : (state : State) → Sound state
     → ((hour seller : ℕ) → IsParty state seller → total (pair (hour_at state hour) seller) state.set_up.parties ≡ (hour_at state hour).holdings seller)
     → (tables : Tables) → Limited tables → (block : Block) (seller : ℕ) → IsParty state seller
-    → OnlyCounted (make_whole state (needed_prices state tables) block seller) (make_whole_claims state block seller) state.set_up.parties
-make_wholes_divisible state sound meets tables limited block seller party =
-    only_counted (make_whole state (needed_prices state tables) block seller) (make_whole_claims state block seller) state.set_up.parties
-    (length_listed (largest_pair state block seller) state.set_up.parties) (few_parties state.set_up sound.proper)
-    (let h = make_whole_size state sound block seller (needed_prices state tables) (needed_small state tables limited) in omega arith)
-    (all_within_listed (largest_pair state block seller) state.set_up.parties
-    (λ buyer _ _. let h = largest_pair_size state sound block seller buyer in omega arith))
-    (⊎_elim
-    (λ (h : 0 < sum (make_whole_claims state block seller)). inr h)
-    (λ (h : sum (make_whole_claims state block seller) ≤ 0).
-    inl (make_whole_none state sound block seller (omega (arith, sum_listed (largest_pair state block seller) state.set_up.parties))
-    (λ hour. meets hour seller party) (needed_prices state tables)))
-    (cases_lt 0 (sum (make_whole_claims state block seller))))
+    → Handed (make_whole state (needed_prices state tables) block seller) (make_whole_claims state block seller) state.set_up.parties
+make_wholes_divisible state sound meets tables limited block seller party = record {
+  equal = length_listed (largest_pair state block seller) state.set_up.parties;
+  few = few_parties state.set_up sound.proper;
+  small = let h = make_whole_size state sound block seller (needed_prices state tables) (needed_small state tables limited) in omega arith;
+  within = all_within_listed (largest_pair state block seller) state.set_up.parties
+      (λ buyer _ _. let h = largest_pair_size state sound block seller buyer in omega arith);
+  claimed = λ above. ⊎_elim
+      (λ (h : 0 < sum (make_whole_claims state block seller)). h)
+      (λ (h : sum (make_whole_claims state block seller) ≤ 0).
+      let none = make_whole_none state sound block seller (omega (arith, sum_listed (largest_pair state block seller) state.set_up.parties))
+      (λ hour. meets hour seller party) (needed_prices state tables) in
+      absurd (omega arith))
+      (cases_lt 0 (sum (make_whole_claims state block seller)));
+}

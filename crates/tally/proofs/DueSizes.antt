@@ -4,9 +4,9 @@ use Rattle.std.proofs.lemmas.Int.{ints}
 use Rattle.std.proofs.lemmas.Bool.{false≢true, true≢false}
 use Rattle.tariff.specs.Answers.{Answer, granted, denied, if_granted}
 use Rattle.tally.specs.DayPrices.{needed_prices}
-use Rattle.tally.specs.Events.{Event, open_day, enter_result, enter_offer, enter_request, allot_hour, deploy, enter_miss, close_day, void_day, start_year}
+use Rattle.tally.specs.Events.{Event, open_day, close_day, void_day}
 use Rattle.tally.specs.Events.{Lawfully, AllLawful}
-use Rattle.tally.specs.Laws.{DuesFit}
+use Rattle.tally.specs.SizeLaws.{DuesFit}
 use Rattle.tally.specs.Denials.{answer}
 use Rattle.tally.specs.States.{State, SetUp, Proper}
 use Rattle.tally.specs.Statements.{Statement, statement_of, due, net}
@@ -47,12 +47,6 @@ done_room : (state : State) (event : Event) (statements : List Statement) → So
 done_room state (open_day day kind month) statements s lawful ok room =
     let found = open_found state day kind month ok in
     λ account l. opens state.day.is_open _ state.day.number (nat_abs day) found.shut found.later (room account l)
-done_room state (enter_result hour party mw) statements s lawful ok room = room
-done_room state (enter_offer hour party mw) statements s lawful ok room = room
-done_room state (enter_request hour party mw) statements s lawful ok room = room
-done_room state (allot_hour hour most meaning) statements s lawful ok room = room
-done_room state (deploy hour buyer mw most meaning) statements s lawful ok room = room
-done_room state (enter_miss hour seller buyer mwh cover) statements s lawful ok room = room
 done_room state (close_day tables most meanings heavy_page light_page) statements s lawful ok room =
     let statement = statement_of state (needed_prices state tables) meanings in
     λ account l. closes state.day.is_open (net state.set_up.parties statement account) (due state.set_up.parties statements account) _
@@ -60,7 +54,7 @@ done_room state (close_day tables most meanings heavy_page light_page) statement
     (net_size state (few_parties state.set_up s.proper) statement (statement_sized state s tables most meanings heavy_page light_page lawful ok) account l)
     (room account l)
 done_room state void_day statements s lawful ok room = λ account l. voids state.day.is_open _ _ (room account l)
-done_room state start_year statements s lawful ok room = room
+done_room state _ statements s lawful ok room = room
 
 -- a denied call leaves all as it was
 told_room : (a : Answer) (new old : State) (made before : List Statement) → (a ≡ granted → Room new (made ++ before)) → Room old before

@@ -1,28 +1,29 @@
 -- What a granted call has found. Assumes nothing.
-use Rattle.std.proofs.Common.{◌≡◌, ℕ, ◌+◌, ◌≤◌, true, false, leb, ℤ, nat_abs}
+use Rattle.std.proofs.Common.{◌≡◌, ℕ, ◌+◌, ◌≤◌, true, false, ℤ, nat_abs}
 use Rattle.std.proofs.lemmas.Bool.{eqb-true, leb-true, not-true}
-use Rattle.tariff.specs.Answers.{Answer, granted, require, ◌then◌}
-use Rattle.tariff.specs.Division.{Division, division_answer}
-use Rattle.tariff.specs.Blocks.{hours_of_day}
+use Rattle.tariff.specs.Answers.{Answer, granted, require, ◌then◌, in_order}
+use Rattle.tariff.specs.Division.{Division}
+use Rattle.tariff.specs.Blocks.{hours_of_day, last_day}
 use Rattle.tariff.specs.Figures.{between}
 use Rattle.tariff.specs.Tables.{Tables}
 use Rattle.tariff.specs.declared.blocks.DayKind.{DayKind}
 use Rattle.tariff.specs.declared.charges.Cover.{Cover}
 use Rattle.tariff.specs.declared.refusal.Refusal.TheVariants.{PageSize, DayOpen, NoDayOpen, Day, Party, Figure, HourAllotted, HourNotAllotted, AboveRequest, AboveDeployment}
 use Rattle.tally.specs.Allotment.{allot_answer}
-use Rattle.tally.specs.DayPrices.{hour_at, in_order, needed_prices, quotes_answer}
-use Rattle.tally.specs.Denials.{last_day, most_mw, answer, day_is_open, no_day_is_open, is_hour_at, is_party_at, is_figure_at, is_unallotted, is_allotted, is_page}
+use Rattle.tally.specs.DayPrices.{needed_prices, needed_quotes_answer}
+use Rattle.tally.specs.Denials.{most_mw, answer, day_is_open, no_day_is_open, is_hour_at, is_party_at, is_figure_at, is_result_at, is_page}
+use Rattle.tally.specs.Denials.{is_unallotted, is_allotted, is_within_served}
 use Rattle.tally.specs.Events.{open_day, enter_result, enter_offer, enter_request, allot_hour, deploy, enter_miss, close_day}
 use Rattle.tally.specs.MakeWhole.{sharings_answer}
-use Rattle.tally.specs.Pairs.{served, pairs_of}
-use Rattle.tally.specs.States.{State, IsParty}
+use Rattle.tally.specs.Pairs.{served, deploy_answer}
+use Rattle.tally.specs.States.{State, IsParty, hour_named}
 use Rattle.tally.proofs.Granting.{then_first, then_next, passed, within_limits}
 
 module _ (state : State) where
-  unallotted : (hour : ℤ) → is_unallotted state hour ≡ granted → (hour_at state (nat_abs hour)).allotted ≡ false
+  unallotted : (hour : ℤ) → is_unallotted state hour ≡ granted → (hour_named state hour).allotted ≡ false
   unallotted hour ok = not-true _ (passed _ (HourAllotted (nat_abs hour)) ok)
 
-  named : (position : ℕ) (party : ℤ) → is_party_at state position party ≡ granted → IsParty state (nat_abs party)
+  pub named : (position : ℕ) (party : ℤ) → is_party_at state position party ≡ granted → IsParty state (nat_abs party)
   named position party ok = within_limits 1 state.set_up.parties party (passed _ (Party position) ok)
 
   small : (position : ℕ) (mw : ℤ) → is_figure_at state position mw ≡ granted → nat_abs mw ≤ 5000
@@ -30,7 +31,7 @@ module _ (state : State) where
 
   -- an entry that comes before the allot: the hour's state, the party and the figure
   pub record Entry (hour party mw : ℤ) : Type 0 where
-    pub unallotted : (hour_at state (nat_abs hour)).allotted ≡ false
+    pub unallotted : (hour_named state hour).allotted ≡ false
     pub known : IsParty state (nat_abs party)
     pub size : nat_abs mw ≤ 5000
 
@@ -58,14 +59,14 @@ module _ (state : State) where
       let third = then_next (is_hour_at state 1 hour) _ (then_next (day_is_open state) _ ok) in
       let fourth = then_next (is_party_at state 2 party) _ third in
       record {
-        unallotted = unallotted hour (then_next (require (leb (nat_abs mw) most_mw) (Figure 3)) _ fourth);
+        unallotted = unallotted hour (then_next (is_result_at state 3 mw) _ fourth);
         known = named 2 party (then_first (is_party_at state 2 party) _ third);
-        size = leb-true _ _ (passed _ (Figure 3) (then_first (require (leb (nat_abs mw) most_mw) (Figure 3)) _ fourth));
+        size = leb-true _ _ (passed _ (Figure 3) (then_first (is_result_at state 3 mw) _ fourth));
       }
 
   pub record Allot (hour : ℤ) (most : ℕ) : Type 0 where
-    pub unallotted : (hour_at state (nat_abs hour)).allotted ≡ false
-    pub supplied : allot_answer state.set_up.parties most (nat_abs hour) (hour_at state (nat_abs hour)) ≡ granted
+    pub unallotted : (hour_named state hour).allotted ≡ false
+    pub supplied : allot_answer state.set_up.parties (hour_named state hour) most (nat_abs hour) ≡ granted
 
   pub allot_found : (hour : ℤ) (most : ℕ) (meaning : Division) → answer state (allot_hour hour most meaning) ≡ granted → Allot hour most
   allot_found hour most meaning ok =
@@ -76,10 +77,10 @@ module _ (state : State) where
       }
 
   pub record Deployment (hour buyer mw : ℤ) (most : ℕ) : Type 0 where
-    pub allotted : (hour_at state (nat_abs hour)).allotted ≡ true
+    pub allotted : (hour_named state hour).allotted ≡ true
     pub known : IsParty state (nat_abs buyer)
-    pub within : nat_abs mw ≤ served (hour_at state (nat_abs hour)) (nat_abs buyer)
-    pub divided : division_answer most (nat_abs mw) (pairs_of state.set_up.parties (hour_at state (nat_abs hour)) (nat_abs buyer)) state.set_up.parties ≡ granted
+    pub within : nat_abs mw ≤ served (hour_named state hour) (nat_abs buyer)
+    pub divided : deploy_answer state.set_up.parties (hour_named state hour) most (nat_abs buyer) (nat_abs mw) ≡ granted
 
   pub deploy_found : (hour buyer mw : ℤ) (most : ℕ) (meaning : Division) → answer state (deploy hour buyer mw most meaning) ≡ granted → Deployment hour buyer mw most
   deploy_found hour buyer mw most meaning ok =
@@ -89,16 +90,13 @@ module _ (state : State) where
       record {
         allotted = passed _ (HourNotAllotted (nat_abs hour)) (then_first (is_allotted state hour) _ fifth);
         known = named 2 buyer (then_first (is_party_at state 2 buyer) _ third);
-        within = leb-true _ _ (passed _ (AboveRequest (nat_abs hour) (nat_abs buyer)) (then_first test _ sixth));
-        divided = then_next test _ sixth;
+        within = leb-true _ _ (passed _ (AboveRequest (nat_abs hour) (nat_abs buyer)) (then_first (is_within_served state hour buyer mw) _ sixth));
+        divided = then_next (is_within_served state hour buyer mw) _ sixth;
       }
-    where
-      test : Answer
-      test = require (leb (nat_abs mw) (served (hour_at state (nat_abs hour)) (nat_abs buyer))) (AboveRequest (nat_abs hour) (nat_abs buyer))
 
   pub record Miss (hour seller buyer mwh : ℤ) : Type 0 where
-    pub allotted : (hour_at state (nat_abs hour)).allotted ≡ true
-    pub within : nat_abs mwh ≤ (hour_at state (nat_abs hour)).deployed (nat_abs seller) (nat_abs buyer)
+    pub allotted : (hour_named state hour).allotted ≡ true
+    pub within : nat_abs mwh ≤ (hour_named state hour).deployed (nat_abs seller) (nat_abs buyer)
 
   pub miss_found : (hour seller buyer mwh : ℤ) (cover : Cover) → answer state (enter_miss hour seller buyer mwh cover) ≡ granted → Miss hour seller buyer mwh
   miss_found hour seller buyer mwh cover ok =
@@ -130,7 +128,7 @@ module _ (state : State) where
     pub heavy : heavy_page ≡ 144
     pub light : light_page ≡ 144
     pub is_open : state.day.is_open ≡ true
-    pub priced : in_order (quotes_answer state tables) hours_of_day ≡ granted
+    pub priced : in_order (needed_quotes_answer state tables) hours_of_day ≡ granted
     pub shared : sharings_answer state (needed_prices state tables) most ≡ granted
 
   pub close_found : (tables : Tables) (most : ℕ) (meanings : ℕ → Division) (heavy_page light_page : ℕ)
@@ -143,6 +141,6 @@ module _ (state : State) where
         heavy = eqb-true _ _ (passed _ (PageSize heavy_page) (then_first (is_page state heavy_page) _ ok));
         light = eqb-true _ _ (passed _ (PageSize light_page) (then_first (is_page state light_page) _ second));
         is_open = passed _ NoDayOpen (then_first (day_is_open state) _ third);
-        priced = then_first (in_order (quotes_answer state tables) hours_of_day) _ fourth;
-        shared = then_next (in_order (quotes_answer state tables) hours_of_day) _ fourth;
+        priced = then_first (in_order (needed_quotes_answer state tables) hours_of_day) _ fourth;
+        shared = then_next (in_order (needed_quotes_answer state tables) hours_of_day) _ fourth;
       }

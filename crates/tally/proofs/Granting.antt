@@ -3,10 +3,9 @@ use Rattle.std.proofs.Common.{◌≡◌, ℕ, zero, suc, ◌<◌, ◌≤◌, Boo
 use Rattle.std.proofs.lemmas.Bool.{cases_lt}
 use Rattle.std.proofs.lemmas.Int.{ints}
 use Rattle.std.proofs.lemmas.Bool.Decides.{nat_tests}
-use Rattle.tariff.specs.Answers.{Answer, granted, denied, ◌then◌, require}
+use Rattle.tariff.specs.Answers.{Answer, granted, denied, ◌then◌, require, in_order}
 use Rattle.tariff.specs.Figures.{between}
 use Rattle.tariff.specs.declared.refusal.Refusal.{Refusal}
-use Rattle.tally.specs.DayPrices.{in_order}
 
 pub then_first : (a b : Answer) → (a then b) ≡ granted → a ≡ granted
 then_first granted b e = refl

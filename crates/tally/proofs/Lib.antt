@@ -1,3 +1,9 @@
+pub mod Figures
+pub mod HoursWorked
+pub mod DayWorked
+pub mod ChargesWorked
+pub mod AccountsWorked
+pub mod RefusalsWorked
 pub mod Numbering
 pub mod Granting
 pub mod SetUps
@@ -18,6 +24,7 @@ pub mod EnergySize
 pub mod PriceSizes
 pub mod MakeWholeSize
 pub mod Divisions
+pub mod Refusing
 pub mod Divisible
 pub mod Absent
 pub mod Turning
@@ -28,5 +35,4 @@ pub mod ChargeSizes
 pub mod PaymentSizes
 pub mod NetSizes
 pub mod DueSizes
-pub mod WorkedDays
-pub mod RefusalsWorked
+pub mod YearSizes

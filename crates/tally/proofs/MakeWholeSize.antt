@@ -3,11 +3,11 @@ use Rattle.std.proofs.Common.{◌≡◌, ℕ, zero, suc, ◌+◌, ◌*◌, ◌�
 use Rattle.std.proofs.lemmas.Int.{ints}
 use Rattle.tariff.specs.declared.blocks.Block.{Block}
 use Rattle.tally.proofs.Products.{abs_mul, product_le}
-use Rattle.tally.specs.DayPrices.{DayPrices, hour_at, in_block, prices_of}
+use Rattle.tally.specs.DayPrices.{DayPrices, in_block, prices_of}
 use Rattle.tally.specs.Numbered.{total, positive_part}
 use Rattle.tally.specs.Pairs.{pair, delivered, declined}
 use Rattle.tally.specs.Settlement.{largest_holding, holdback, energy, settlement, revenue, declined_credit, idle_credit, credits, make_whole}
-use Rattle.tally.specs.States.{State}
+use Rattle.tally.specs.States.{State, hour_at}
 use Rattle.tally.proofs.BlockHours.{total_z_low, block_size, block_low, block_greatest_bound}
 use Rattle.tally.proofs.Numbering.{total_none, total_more, total_add, total_swap, total_bound, total_z_add, total_z_bound}
 use Rattle.tally.proofs.PriceSizes.{SmallPrices, energy_price_size, holdback_price_low}
@@ -52,7 +52,7 @@ both_low : (x y : ℤ) (n : ℕ) → pos 0 ≤ℤ (x +ℤ pos n) → pos 0 ≤�
 both_low x y n h k = omega (arith, ints)
 
 module _ (state : State) (sound : Sound state) (block : Block) (seller : ℕ) where
-  largest_holding_size : largest_holding state block seller ≤ 10000
+  pub largest_holding_size : largest_holding state block seller ≤ 10000
   unfolding largest_holding
   largest_holding_size =
       block_greatest_bound state block (λ hour. (hour_at state hour).holdings seller) 10000
@@ -72,13 +72,13 @@ module _ (state : State) (sound : Sound state) (block : Block) (seller : ℕ) wh
       omega arith))
 
   module _ (prices : DayPrices) (small : SmallPrices prices) where
-    revenue_size : nat_abs (revenue state prices block seller) ≤ 240000000000
+    pub revenue_size : nat_abs (revenue state prices block seller) ≤ 240000000000
     unfolding revenue
     revenue_size =
         block_size state block (λ hour. pos (largest_holding state block seller) *ℤ prices.day_ahead block) 10000000000
         (λ hour i. product_size (largest_holding state block seller) 10000 (prices.day_ahead block) 1000000 largest_holding_size (small.day_ahead block))
 
-    credits_size : nat_abs (credits state prices block seller) ≤ 240000000000
+    pub credits_size : nat_abs (credits state prices block seller) ≤ 240000000000
     unfolding declined_credit idle_credit
     credits_size =
         rw (sym (total_z_add declined_at idle_at 24))

@@ -7,15 +7,15 @@ use Rattle.tariff.specs.declared.blocks.Block.{Block}
 use Rattle.tariff.specs.declared.charges.Cover.{Cover}
 use Rattle.tariff.specs.declared.charges.Cover.TheVariants.{Covered, Uncovered}
 use Rattle.tally.specs.Charges.{pool_part, buyer_part}
-use Rattle.tally.specs.DayPrices.{DayPrices, hour_at, needed_prices, prices_of}
+use Rattle.tally.specs.DayPrices.{DayPrices, needed_prices, prices_of}
 use Rattle.tally.specs.Events.{close_day, Lawfully}
-use Rattle.tally.specs.Laws.{PaymentsFit, SmallPayment}
+use Rattle.tally.specs.SizeLaws.{PaymentsFit, SmallPayment}
 use Rattle.tally.specs.MakeWhole.{make_whole_share}
 use Rattle.tally.specs.Numbered.{total_z}
 use Rattle.tally.specs.Pairs.{pair, delivered}
 use Rattle.tally.specs.Denials.{answer}
 use Rattle.tally.specs.Settlement.{holdback, energy}
-use Rattle.tally.specs.States.{State, IsParty}
+use Rattle.tally.specs.States.{State, IsParty, hour_at}
 use Rattle.tally.specs.Statements.{Payment, Statement, statement_of}
 use Rattle.tally.specs.Tally.{tallied}
 use Rattle.tally.proofs.BlockHours.{block_size}
@@ -50,7 +50,7 @@ buyer_part_le Covered cents = omega arith
 buyer_part_le Uncovered cents = omega arith
 
 module _ (state : State) (sound : Sound state) (prices : DayPrices) (small : SmallPrices prices) (block : Block) (seller buyer : ℕ) where
-  holdback_size : nat_abs (holdback state prices block seller buyer) ≤ 288000000000
+  pub holdback_size : nat_abs (holdback state prices block seller buyer) ≤ 288000000000
   unfolding holdback
   holdback_size =
       block_size state block (λ hour. pos (pair (hour_at state hour) seller buyer) *ℤ (prices_of state prices hour).holdback) 12000000000
@@ -58,7 +58,7 @@ module _ (state : State) (sound : Sound state) (prices : DayPrices) (small : Sma
       (pair_size state.set_up.parties (hour_at state hour) (sound.hours hour) seller buyer)
       (holdback_price_size state prices small hour))
 
-  energy_size : nat_abs (energy state prices block seller buyer) ≤ 240000000000
+  pub energy_size : nat_abs (energy state prices block seller buyer) ≤ 240000000000
   unfolding energy
   energy_size =
       block_size state block (λ hour. pos (delivered (hour_at state hour) seller buyer) *ℤ (prices_of state prices hour).energy) 10000000000

@@ -1,14 +1,10 @@
 -- The worked refusals follow from the definitions. Assumes nothing.
 use Rattle.std.proofs.Common.{refl}
-use Rattle.tally.specs.DayPrices.{is_held_in, prices_of}
-use Rattle.tally.specs.MakeWhole.{largest_pair}
-use Rattle.tally.specs.Numbered.{total, total_z, greatest}
-use Rattle.tally.specs.Pairs.{pair}
-use Rattle.tally.specs.Settlement.{largest_holding, holdback, energy, revenue, declined_credit, idle_credit}
 use Rattle.tally.specs.WorkedRefusals.{WorkedRefusals}
+use Rattle.tally.proofs.Figures.{figures}
 
 pub worked_refusals : WorkedRefusals
-unfolding total total_z greatest pair is_held_in prices_of largest_holding holdback energy revenue declined_credit idle_credit largest_pair
+unfolding figures
 worked_refusals = record {
   set_up_one = refl;
   set_up_thirteen = refl;
@@ -23,8 +19,11 @@ worked_refusals = record {
   offers = refl;
   requests = refl;
   allots = refl;
+  allots_none = refl;
+  allots_one = refl;
   allots_ten = refl;
   allots_twelve = refl;
+  allots_surplus = refl;
   allots_thirteen = refl;
   deployments = refl;
   misses = refl;
@@ -32,7 +31,10 @@ worked_refusals = record {
   factor_needed = refl;
   factor_unneeded = refl;
   sharing_denied = refl;
+  light_sharing_denied = refl;
+  sharing_unneeded = refl;
   sharing_granted = refl;
+  opened_later = refl;
   while_open = refl;
   while_shut = refl;
 }

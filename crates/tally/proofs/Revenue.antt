@@ -3,16 +3,16 @@ use Rattle.std.proofs.Common.{◌≡◌, ℕ, ◌<◌, Bool, true, false, cond, 
 use lib.IntN.{zero-*ℤ}
 use Rattle.std.proofs.lemmas.Int.{ints}
 use Rattle.std.proofs.lemmas.Bool.{eqb-true}
-use Rattle.tariff.specs.Answers.{granted}
+use Rattle.tariff.specs.Answers.{granted, in_order}
 use Rattle.tariff.specs.Division.{Division, LawfulRule, division_answer}
 use Rattle.tariff.specs.declared.blocks.Block.{Block}
 use Rattle.tariff.specs.declared.blocks.Block.TheVariants.{Heavy, Light}
-use Rattle.tally.specs.DayPrices.{DayPrices, hour_at, in_order, needed_prices}
-use Rattle.tally.specs.Laws.{RevenueReached, Reached, buyers_pay}
+use Rattle.tally.specs.DayPrices.{DayPrices, needed_prices}
+use Rattle.tally.specs.RevenueLaws.{RevenueReached, Reached, buyers_pay}
 use Rattle.tally.specs.MakeWhole.{make_whole_share, largest_pair, sharing_answer, sharings_answer, turn}
 use Rattle.tally.specs.Numbered.{total, listed, numbered, positive_part}
 use Rattle.tally.specs.Settlement.{make_whole, revenue, settlement, credits, declined_credit, idle_credit, largest_holding, holdback, energy}
-use Rattle.tally.specs.States.{State, IsParty}
+use Rattle.tally.specs.States.{State, IsParty, hour_at}
 use Rattle.tally.specs.Statements.{buyer_pays, statement_of}
 use Rattle.tally.specs.Tally.{tallied}
 use Rattle.tally.proofs.BlockHours.{IsHourIn, block_zero, le_block_greatest}
@@ -52,7 +52,7 @@ module _ (state : State) (prices : DayPrices) where
   unfolding make_whole_share
   make_whole_adds most meanings block seller lawful g =
       shares_add most (make_whole state prices block seller) state.set_up.parties (largest_pair state block seller)
-      (meanings (turn state.set_up.parties block seller)) (lawful (turn state.set_up.parties block seller))
+      (meanings (turn state block seller)) (lawful (turn state block seller))
       (eqb (make_whole state prices block seller) 0) refl g
 
   -- granted sharings grant each seller's

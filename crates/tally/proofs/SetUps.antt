@@ -20,6 +20,11 @@ module _ (set_up : SetUp) (proper : Proper set_up) where
       let rates = passed _ Rates (then_next (require (between 2 12 (pos set_up.parties)) Parties) _ proper) in
       grind (arith, ints, nat_tests)
 
+  pub full_size : set_up.full ≤ 100000000
+  full_size =
+      let rates = passed _ Rates (then_next (require (between 2 12 (pos set_up.parties)) Parties) _ proper) in
+      grind (arith, ints, nat_tests)
+
 -- a figure that is not below 0 is its size
 sized : (low : ℕ) (figure : ℤ) → le_z (pos low) figure ≡ true → pos (nat_abs figure) ≡ figure
 sized low (pos n) e = refl

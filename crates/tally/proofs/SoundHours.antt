@@ -7,7 +7,7 @@ use Rattle.tariff.specs.Division.{Division, LawfulRule, division_answer}
 use Rattle.tariff.specs.declared.charges.Cover.{Cover}
 use Rattle.tally.specs.Allotment.{counted_offer, surplus, requested, offered, spare, offers_suffice, allot_total, allot_claims, held_whole, allotment, allot_answer, supply_answer}
 use Rattle.tally.specs.Hours.{Hour, blank, with_result, with_offer, with_request, with_holdings, with_deployment, with_miss}
-use Rattle.tally.specs.Laws.{Ordered}
+use Rattle.tally.specs.PairLaws.{Ordered}
 use Rattle.tally.specs.Numbered.{total, listed, numbered, replaced}
 use Rattle.tally.specs.Pairs.{pair, pairs_of}
 use Rattle.tally.proofs.Granting.{then_first, then_next}
@@ -115,15 +115,15 @@ module _ (c s : ℕ → ℕ) (wanted n most : ℕ) (rule : Division) (lawful : L
 
 module _ (n : ℕ) (hour : Hour) (sound : SoundHour n hour) where
   module _ (unallotted : hour.allotted ≡ false) (most number : ℕ) (rule : Division) (lawful : LawfulRule most rule)
-      (ok : allot_answer n most number hour ≡ granted) where
+      (ok : allot_answer n hour most number ≡ granted) where
     supplied : requested n hour ≤ offered n hour + spare n hour
-    supplied = let first = then_first (supply_answer n number hour) _ ok in grind (arith, nat_tests)
+    supplied = let first = then_first (supply_answer n hour number) _ ok in grind (arith, nat_tests)
 
     -- the rule is consulted where anything is requested
     divides : eqb (requested n hour) 0 ≡ false → division_answer most (allot_total n hour) (allot_claims n hour) n ≡ granted
-    divides e = subst (λ b. cond b granted (division_answer most (allot_total n hour) (allot_claims n hour) n) ≡ granted) e (then_next (supply_answer n number hour) _ ok)
+    divides e = subst (λ b. cond b granted (division_answer most (allot_total n hour) (allot_claims n hour) n) ≡ granted) e (then_next (supply_answer n hour number) _ ok)
 
-    holdings_total : total (allotment n rule hour) n ≡ requested n hour
+    holdings_total : total (allotment n hour rule) n ≡ requested n hour
     unfolding allotment
     holdings_total = by (eqb (requested n hour) 0) refl
       where
@@ -132,7 +132,7 @@ module _ (n : ℕ) (hour : Hour) (sound : SoundHour n hour) where
         by true e = total_zero _ n (λ _ _ _. refl) ∙ sym (eqb-true _ _ e)
         by false e = held_total (counted_offer hour) (surplus hour) (requested n hour) n most rule lawful supplied (offers_suffice n hour) refl (divides e)
 
-    holdings_within : (p : ℕ) → allotment n rule hour p ≤ counted_offer hour p + surplus hour p
+    holdings_within : (p : ℕ) → allotment n hour rule p ≤ counted_offer hour p + surplus hour p
     unfolding allotment
     holdings_within p = by (eqb (requested n hour) 0) refl
       where
@@ -141,7 +141,7 @@ module _ (n : ℕ) (hour : Hour) (sound : SoundHour n hour) where
         by true e = omega arith
         by false e = held_within (counted_offer hour) (surplus hour) (requested n hour) n most rule lawful supplied (offers_suffice n hour) refl (divides e) p
 
-    pub allot_sound : SoundHour n (with_holdings (allotment n rule hour) hour)
+    pub allot_sound : SoundHour n (with_holdings (allotment n hour rule) hour)
     allot_sound = record {
       results = sound.results;
       offers = sound.offers;

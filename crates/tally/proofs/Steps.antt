@@ -1,10 +1,10 @@
 -- What holds after a call, granted or denied, and that none changes the set-up. Assumes nothing.
 use Rattle.std.proofs.Common.{◌≡◌, List, [], ◌∷◌, refl, ◌∙◌}
 use Rattle.tariff.specs.Answers.{Answer, granted, denied, if_granted}
-use Rattle.tally.specs.Events.{Event, open_day, enter_result, enter_offer, enter_request, allot_hour, deploy, enter_miss, close_day, void_day, start_year}
+use Rattle.tally.specs.Events.{Event, open_day}
 use Rattle.tally.specs.Denials.{answer}
 use Rattle.tally.specs.States.{State, SetUp}
-use Rattle.tally.specs.Tally.{done, tallied}
+use Rattle.tally.specs.Tally.{done, step, tallied}
 
 -- what holds of the new where the call is granted, and of the old, holds of what stands after it
 pub if_granted_has : {A : Type 0} (P : A → Type 0) (a : Answer) (new old : A) → (a ≡ granted → P new) → P old → P (if_granted a new old)
@@ -14,19 +14,12 @@ if_granted_has P (denied number first second) new old h o = o
 -- no call changes the set-up
 pub done_set_up : (state : State) (event : Event) → (done state event).set_up ≡ state.set_up
 done_set_up state (open_day day kind month) = refl
-done_set_up state (enter_result hour party mw) = refl
-done_set_up state (enter_offer hour party mw) = refl
-done_set_up state (enter_request hour party mw) = refl
-done_set_up state (allot_hour hour most meaning) = refl
-done_set_up state (deploy hour buyer mw most meaning) = refl
-done_set_up state (enter_miss hour seller buyer mwh cover) = refl
-done_set_up state (close_day tables most meanings heavy_page light_page) = refl
-done_set_up state void_day = refl
-done_set_up state start_year = refl
+done_set_up state _ = refl
+
+pub step_set_up : (state : State) (event : Event) → (step state event).set_up ≡ state.set_up
+step_set_up state event =
+    if_granted_has (λ (s : State). s.set_up ≡ state.set_up) (answer state event) (done state event) state (λ _. done_set_up state event) refl
 
 pub tallied_set_up : (set_up : SetUp) (events : List Event) → (tallied set_up events).state.set_up ≡ set_up
 tallied_set_up set_up [] = refl
-tallied_set_up set_up (event ∷ events) =
-    let before = (tallied set_up events).state in
-    if_granted_has (λ (s : State). s.set_up ≡ before.set_up) (answer before event) (done before event) before (λ _. done_set_up before event) refl
-    ∙ tallied_set_up set_up events
+tallied_set_up set_up (event ∷ events) = step_set_up (tallied set_up events).state event ∙ tallied_set_up set_up events

@@ -6,8 +6,8 @@ use Rattle.tariff.specs.declared.blocks.DayKind.{DayKind}
 use Rattle.tariff.specs.declared.charges.Cover.{Cover}
 
 -- Figures are as they were entered. `most` is how many claims above 0 the rule takes, `meaning` what it meant when it was
--- called. A close has the meaning at each turn, of which `Turns` says how one follows from the other, and how many
--- entries the two pages have that it was given.
+-- called. A close has the meaning at each turn; `Turns` says how one follows from the other. It also has the number of
+-- entries of each of its two pages.
 pub data Event : Type 0 where
   open_day : (day : ℤ) (kind : DayKind) (month : ℤ) → Event
   enter_result : (hour party mw : ℤ) → Event
@@ -20,18 +20,12 @@ pub data Event : Type 0 where
   void_day : Event
   start_year : Event
 
--- any source and rule may have answered that keep their laws
+-- any source and any rule may have answered, as long as they keep their laws
 abbrev pub Lawfully : Event → Type 0
-Lawfully (open_day day kind month) = Unit {0}
-Lawfully (enter_result hour party mw) = Unit {0}
-Lawfully (enter_offer hour party mw) = Unit {0}
-Lawfully (enter_request hour party mw) = Unit {0}
 Lawfully (allot_hour hour most meaning) = LawfulRule most meaning
 Lawfully (deploy hour buyer mw most meaning) = LawfulRule most meaning
-Lawfully (enter_miss hour seller buyer mwh cover) = Unit {0}
 Lawfully (close_day tables most meanings heavy_page light_page) = Limited tables × ((turn : ℕ) → LawfulRule most (meanings turn))
-Lawfully void_day = Unit {0}
-Lawfully start_year = Unit {0}
+Lawfully _ = Unit {0}
 
 -- of each event of a list
 abbrev pub AllLawful : List Event → Type 0

@@ -21,79 +21,40 @@ pub record Hour : Type 0 where
 
 -- every hour of a day that was just opened
 abbrev pub blank : Hour
-blank = record { results = λ p. pos 0; offers = λ p. 0; requests = λ p. 0; allotted = false; holdings = λ p. 0; deployed = λ s b. 0; missed = λ s b. 0; cover = λ s b. Covered }
+blank = record {
+  results = λ party. pos 0;
+  offers = λ party. 0;
+  requests = λ party. 0;
+  allotted = false;
+  holdings = λ party. 0;
+  deployed = λ seller buyer. 0;
+  missed = λ seller buyer. 0;
+  cover = λ seller buyer. Covered;
+}
 
 -- a result takes the place of the earlier one and sets the party's request to 0
 abbrev pub with_result : ℕ → ℤ → Hour → Hour
-with_result party mw hour = record {
-  results = replaced hour.results party mw;
-  offers = hour.offers;
-  requests = replaced hour.requests party 0;
-  allotted = hour.allotted;
-  holdings = hour.holdings;
-  deployed = hour.deployed;
-  missed = hour.missed;
-  cover = hour.cover;
-}
+with_result party mw hour = record hour { results = replaced hour.results party mw; requests = replaced hour.requests party 0 }
 
 abbrev pub with_offer : ℕ → ℕ → Hour → Hour
-with_offer party mw hour = record {
-  results = hour.results;
-  offers = replaced hour.offers party mw;
-  requests = hour.requests;
-  allotted = hour.allotted;
-  holdings = hour.holdings;
-  deployed = hour.deployed;
-  missed = hour.missed;
-  cover = hour.cover;
-}
+with_offer party mw hour = record hour { offers = replaced hour.offers party mw }
 
 abbrev pub with_request : ℕ → ℕ → Hour → Hour
-with_request party mw hour = record {
-  results = hour.results;
-  offers = hour.offers;
-  requests = replaced hour.requests party mw;
-  allotted = hour.allotted;
-  holdings = hour.holdings;
-  deployed = hour.deployed;
-  missed = hour.missed;
-  cover = hour.cover;
-}
+with_request party mw hour = record hour { requests = replaced hour.requests party mw }
 
 abbrev pub with_holdings : (ℕ → ℕ) → Hour → Hour
-with_holdings holdings hour = record {
-  results = hour.results;
-  offers = hour.offers;
-  requests = hour.requests;
-  allotted = true;
-  holdings = holdings;
-  deployed = hour.deployed;
-  missed = hour.missed;
-  cover = hour.cover;
-}
+with_holdings holdings hour = record hour { allotted = true; holdings = holdings }
 
 -- a deployment, by seller, takes the place of the buyer's earlier one and sets its misses to 0
 abbrev pub with_deployment : ℕ → (ℕ → ℕ) → Hour → Hour
-with_deployment buyer shares hour = record {
-  results = hour.results;
-  offers = hour.offers;
-  requests = hour.requests;
-  allotted = hour.allotted;
-  holdings = hour.holdings;
-  deployed = λ s. replaced (hour.deployed s) buyer (shares s);
-  missed = λ s. replaced (hour.missed s) buyer 0;
-  cover = hour.cover;
+with_deployment buyer shares hour = record hour {
+  deployed = λ seller. replaced (hour.deployed seller) buyer (shares seller);
+  missed = λ seller. replaced (hour.missed seller) buyer 0;
 }
 
 -- a miss takes the place of the pair's earlier one
 abbrev pub with_miss : (seller buyer : ℕ) → ℕ → Cover → Hour → Hour
-with_miss seller buyer mwh cover hour = record {
-  results = hour.results;
-  offers = hour.offers;
-  requests = hour.requests;
-  allotted = hour.allotted;
-  holdings = hour.holdings;
-  deployed = hour.deployed;
+with_miss seller buyer mwh cover hour = record hour {
   missed = replaced hour.missed seller (replaced (hour.missed seller) buyer mwh);
   cover = replaced hour.cover seller (replaced (hour.cover seller) buyer cover);
 }

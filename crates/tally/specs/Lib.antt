@@ -14,5 +14,15 @@ pub mod Events
 pub mod Denials
 pub mod Tally
 pub mod Laws
+pub mod PairLaws
+pub mod AccountLaws
+pub mod RevenueLaws
+pub mod ChargeLaws
+pub mod RuleLaws
+pub mod SizeLaws
+pub mod WorkedPool
+pub mod WorkedHours
 pub mod WorkedDay
+pub mod WorkedCharges
+pub mod WorkedAccounts
 pub mod WorkedRefusals

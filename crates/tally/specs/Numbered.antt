@@ -1,5 +1,5 @@
 -- Figures by number, from 1 up: their sum, the greatest of them, their list. Assumes nothing.
-use Rattle.std.specs.Prelude.{ℕ, zero, suc, ◌+◌, max, cond, List, map, ℤ, pos, negsuc, ◌+ℤ◌, ◌==◌, slice_index}
+use Rattle.std.specs.Prelude.{ℕ, zero, suc, ◌+◌, max, if◌then◌else◌, List, map, ℤ, pos, negsuc, ◌+ℤ◌, ◌==◌, slice_index}
 use Rattle.std.specs.List.{range_with_len}
 
 -- f 1 + f 2 + .. + f n
@@ -17,7 +17,7 @@ unfoldable pub total_z : (ℕ → ℤ) → ℕ → ℤ
 total_z f zero = pos 0
 total_z f (suc n) = total_z f n +ℤ f (suc n)
 
--- the greatest of f 1, f 2, .., f n, and 0 where n is
+-- the greatest of f 1, f 2, .., f n, and 0 where n is 0
 unfoldable pub greatest : (ℕ → ℕ) → ℕ → ℕ
 greatest f zero = 0
 greatest f (suc n) = max (greatest f n) (f (suc n))
@@ -33,7 +33,7 @@ numbered list (suc i) = slice_index list i
 
 -- the figures with x in the place of number k
 abbrev pub replaced : {A : Type 0} → (ℕ → A) → ℕ → A → ℕ → A
-replaced f k x i = cond (i == k) x (f i)
+replaced f k x i = if i == k then x else f i
 
 -- a figure where it is above 0, else 0
 abbrev pub positive_part : ℤ → ℕ

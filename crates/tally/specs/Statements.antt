@@ -3,8 +3,8 @@ use Rattle.std.specs.Prelude.{ℕ, zero, suc, List, [], ◌∷◌, ℤ, pos, ◌
 use Rattle.tariff.specs.Division.{Division}
 use Rattle.tariff.specs.declared.blocks.Block.{Block}
 use Rattle.tariff.specs.declared.blocks.Block.TheVariants.{Heavy, Light}
-use Rattle.tally.specs.Charges.{cut_charge, pool_part, buyer_part}
-use Rattle.tally.specs.DayPrices.{DayPrices, hour_at}
+use Rattle.tally.specs.Charges.{pool_charge, buyer_charge}
+use Rattle.tally.specs.DayPrices.{DayPrices}
 use Rattle.tally.specs.MakeWhole.{make_whole_share}
 use Rattle.tally.specs.Numbered.{total_z}
 use Rattle.tally.specs.Settlement.{block_total, holdback, energy}
@@ -28,8 +28,8 @@ statement_of state prices meanings block seller buyer = record {
   holdback = holdback state prices block seller buyer;
   energy = energy state prices block seller buyer;
   make_whole = pos (make_whole_share state prices meanings block seller buyer);
-  to_pool = block_total state block (λ hour. pos (pool_part ((hour_at state hour).cover seller buyer) (cut_charge state prices seller hour buyer)));
-  to_buyer = block_total state block (λ hour. pos (buyer_part ((hour_at state hour).cover seller buyer) (cut_charge state prices seller hour buyer)));
+  to_pool = block_total state block (λ hour. pos (pool_charge state prices seller hour buyer));
+  to_buyer = block_total state block (λ hour. pos (buyer_charge state prices seller hour buyer));
 }
 
 abbrev pub buyer_pays : Payment → ℤ

@@ -1,4 +1,4 @@
--- What a pool stands at: its set-up, its day and its program year. Assumes nothing.
+-- The state of a pool: its set-up, its day and its program year. Assumes nothing.
 use Rattle.std.specs.Prelude.{◌≡◌, ℕ, ◌<◌, ◌≤◌, Bool, false, ◌&&◌, ℤ, pos, int_le, unsigned_abs}
 use Rattle.tariff.specs.Answers.{Answer, granted, require, ◌then◌}
 use Rattle.tariff.specs.Figures.{between}
@@ -35,10 +35,14 @@ pub record Day : Type 0 where
   -- by number from 1
   pub hours : ℕ → Hour
 
--- what a program year has come to, by closed days alone
+abbrev pub months_of_year : ℕ
+months_of_year = 12
+
+-- what a program year has come to
 pub record Year : Type 0 where
-  -- of the last day opened in it, 0 before the first
+  -- of the last day opened in it, also where that was dropped; 0 before the first
   pub month : ℕ
+  -- by closed days alone, by seller: failure days
   pub failure_days : ℕ → ℕ
   -- the largest hourly miss, by seller and month
   pub misses : ℕ → ℕ → ℕ
@@ -50,25 +54,34 @@ pub record State : Type 0 where
   pub day : Day
   pub year : Year
 
+-- an hour of the day by its number, and the one that an entry names
+abbrev pub hour_at : State → ℕ → Hour
+hour_at state hour = state.day.hours hour
+
+abbrev pub hour_named : State → ℤ → Hour
+hour_named state hour = hour_at state (unsigned_abs hour)
+
 -- a party's number
 abbrev pub IsParty : State → ℕ → Type 0
 IsParty state party = (0 < party) × (party ≤ state.set_up.parties)
 
 abbrev pub fresh_year : Year
-fresh_year = record { month = 0; failure_days = λ s. 0; misses = λ s m. 0; charges = λ s. 0 }
+fresh_year = record { month = 0; failure_days = λ seller. 0; misses = λ seller month. 0; charges = λ seller. 0 }
 
 -- before the first call: no day was opened
 abbrev pub fresh : SetUp → State
-fresh set_up = record { set_up = set_up; day = record { number = 0; is_open = false; kind = Workday; hours = λ h. blank }; year = fresh_year }
+fresh set_up = record {
+  set_up = set_up;
+  day = record { number = 0; is_open = false; kind = Workday; hours = λ hour. blank };
+  year = fresh_year;
+}
 
 -- one hour of the day changed
 abbrev pub on_hour : ℕ → (Hour → Hour) → State → State
-on_hour hour change state = record {
-  set_up = state.set_up;
-  day = record { number = state.day.number; is_open = state.day.is_open; kind = state.day.kind; hours = replaced state.day.hours hour (change (state.day.hours hour)) };
-  year = state.year;
+on_hour hour change state = record state {
+  day = record (state.day) { hours = replaced state.day.hours hour (change (state.day.hours hour)) };
 }
 
 -- the day closed or dropped, its number and month used up
 abbrev pub shut : Day → Day
-shut day = record { number = day.number; is_open = false; kind = day.kind; hours = day.hours }
+shut day = record day { is_open = false }

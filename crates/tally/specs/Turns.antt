@@ -18,7 +18,7 @@ pub record Turns (moves : Moves) (state : State) (prices : DayPrices) (meanings 
   pub starts : meanings 0 ≡ first
   pub turns : (block : Block) (seller : ℕ) → IsParty state seller
       → Turned moves (make_whole state prices block seller) (make_whole_claims state block seller)
-      (meanings (turn state.set_up.parties block seller)) (meanings (turn state.set_up.parties block seller + 1))
+      (meanings (turn state block seller)) (meanings (turn state block seller + 1))
   pub ends : meanings (state.set_up.parties + state.set_up.parties) ≡ last
 
 -- A rule that never moves its meaning makes all divisions of a close by the one that it had at the call.

@@ -12,8 +12,7 @@ day_charges state prices seller = total (λ hour. total (cut_charge state prices
 
 -- the year with the day counted: failure days, monthly misses and charges as they were cut
 abbrev pub year_closed : State → DayPrices → Year
-year_closed state prices = record {
-  month = state.year.month;
+year_closed state prices = record (state.year) {
   failure_days = failure_days state;
   misses = month_miss state;
   charges = λ seller. state.year.charges seller + day_charges state prices seller;

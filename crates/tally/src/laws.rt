@@ -1,6 +1,11 @@
 // What every list of calls keeps, each law on the contract of a function that does nothing else.
-ghost use Rattle.tally.specs.Laws.{AcceptedSetUpsProper, PairsMeet, AllottedHoursStand, MissesWithinDeployments, AccountsBalance, RevenueReached};
-ghost use Rattle.tally.specs.Laws.{ChargesWithinCeiling, CeilingNeverFalls, OnlyClaimCountsRefused, OnlyPartiesPay, PaymentsFit, DuesFit};
+ghost use Rattle.tally.specs.AccountLaws.{AccountsBalance, OnlyPartiesPay};
+ghost use Rattle.tally.specs.ChargeLaws.{CeilingNeverFalls, ChargesCutInTurn, ChargesWithinCeiling};
+ghost use Rattle.tally.specs.Laws.{AcceptedSetUpsProper};
+ghost use Rattle.tally.specs.PairLaws.{AllottedHoursStand, DeploymentsDivided, MissesWithinDeployments, PairsMeet};
+ghost use Rattle.tally.specs.RevenueLaws.{RevenueReached};
+ghost use Rattle.tally.specs.RuleLaws.{HandedWithinLimits, OnlyClaimCountsRefused};
+ghost use Rattle.tally.specs.SizeLaws.{DuesFit, PaymentsFit, YearsFit};
 ghost use Rattle.tally.specs.Turns.{UnmovedRulesKeepOneMeaning};
 
 // A set-up whose figures are accepted is one that the other laws speak of.
@@ -14,12 +19,17 @@ pub fn pairs_meet()
     ensures { PairsMeet }
 {}
 
-// While its day is open, an allotted hour keeps what it was allotted by.
+// While its day is open, an allotted hour keeps what it was allotted by, and its holdings.
 pub fn allotted_hours_stand()
     ensures { AllottedHoursStand }
 {}
 
-// A deployment is divided within its pairs, and a miss never passes its deployment.
+// A deployment is divided whole among its buyer's sellers.
+pub fn deployments_divided()
+    ensures { DeploymentsDivided }
+{}
+
+// What is deployed stays within its pair, and a miss never passes its deployment.
 pub fn misses_within_deployments()
     ensures { MissesWithinDeployments }
 {}
@@ -27,6 +37,11 @@ pub fn misses_within_deployments()
 // What is due to all accounts, the pool's with them, adds up to 0.
 pub fn accounts_balance()
     ensures { AccountsBalance }
+{}
+
+// A number above the last party's has no payment on any statement.
+pub fn only_parties_pay()
+    ensures { OnlyPartiesPay }
 {}
 
 // At each close what a seller's buyers pay, make-whole included, and its credits reach its block sale revenue, and equal
@@ -40,12 +55,22 @@ pub fn charges_within_ceiling()
     ensures { ChargesWithinCeiling }
 {}
 
-// Within a year no ceiling falls.
+// No ceiling falls but by a year that is granted.
 pub fn ceiling_never_falls()
     ensures { CeilingNeverFalls }
 {}
 
-// Of a rule's refusals only that for too many claims can come out of a call.
+// Each charge is cut to what the ceiling still allows after those before it.
+pub fn charges_cut_in_turn()
+    ensures { ChargesCutInTurn }
+{}
+
+// Every total that a call hands to a rule lies within 0 to 10^12, and has a claim above 0 where it is above 0.
+pub fn handed_within_limits()
+    ensures { HandedWithinLimits }
+{}
+
+// So of a rule's refusals only that for too many claims can come out of a call.
 pub fn only_claim_counts_refused()
     ensures { OnlyClaimCountsRefused }
 {}
@@ -53,11 +78,6 @@ pub fn only_claim_counts_refused()
 // A rule that never moves its meaning makes all divisions of a close by the one that it had at the call.
 pub fn unmoved_rules_keep_one_meaning()
     ensures { UnmovedRulesKeepOneMeaning }
-{}
-
-// A number above the last party's has no payment on any statement.
-pub fn only_parties_pay()
-    ensures { OnlyPartiesPay }
 {}
 
 // No figure of a statement passes 2 × 10^13 cents.
@@ -68,4 +88,9 @@ pub fn payments_fit()
 // Nothing that is due to an account passes what 64 bits hold.
 pub fn dues_fit()
     ensures { DuesFit }
+{}
+
+// Failure days, misses and ceilings of a year stay small.
+pub fn years_fit()
+    ensures { YearsFit }
 {}

@@ -1,5 +1,5 @@
 -- What a call answers: it is granted, or denied by a number with two places. Assumes nothing.
-use Rattle.std.specs.Prelude.{◌≡◌, ℕ, Bool, cond, IfOk, Ok, Err, Result}
+use Rattle.std.specs.Prelude.{◌≡◌, ℕ, zero, suc, Bool, if◌then◌else◌, IfOk, Ok, Err, Result}
 use Rattle.tariff.specs.declared.refusal.Refusal.{Refusal}
 use Rattle.tariff.specs.Refusals.{number_of, places_of}
 
@@ -22,9 +22,14 @@ abbrev pub ◌then◌ : Answer → Answer → Answer
 granted then b = b
 (denied number first second) then b = denied number first second
 
+-- tests by number, from 1 on
+abbrev pub in_order : (ℕ → Answer) → ℕ → Answer
+in_order test zero = granted
+in_order test (suc n) = in_order test n then test (suc n)
+
 -- granted where the test passes, else refused
 abbrev pub require : Bool → Refusal → Answer
-require b e = cond b granted (refused e)
+require b e = if b then granted else refused e
 
 -- what stands after a call: something new where it is granted, else what stood before
 abbrev pub if_granted : {A : Type 0} → Answer → A → A → A

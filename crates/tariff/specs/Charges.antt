@@ -1,11 +1,11 @@
 -- The table of delivery factors. Assumes nothing.
-use Rattle.std.specs.Prelude.{ℕ, cond, ◌==◌, nat_le}
+use Rattle.std.specs.Prelude.{ℕ, if◌then◌else◌, ◌==◌, nat_le}
 use Rattle.tariff.specs.declared.charges.Cover.{Cover}
 use Rattle.tariff.specs.declared.charges.Cover.TheVariants.{Covered, Uncovered}
 
 -- one row: by the first, the second and every later failure day of a year
 abbrev pub by_failure_day : ℕ → (first second later : ℕ) → ℕ
-by_failure_day day first second later = cond (nat_le day 1) first (cond (day == 2) second later)
+by_failure_day day first second later = if nat_le day 1 then first else (if day == 2 then second else later)
 
 -- missed energy that others covered, and that nobody covered
 abbrev pub delivery_factor : ℕ → Cover → ℕ

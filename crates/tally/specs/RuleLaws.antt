@@ -1,0 +1,44 @@
+-- What every list of calls keeps of the totals and claims that it hands to a division rule. Assumes nothing.
+use Rattle.std.specs.Prelude.{◌≡◌, ℕ, ◌<◌, ◌≤◌, true, List, length, sum}
+use Rattle.tariff.specs.Answers.{granted, denied}
+use Rattle.tariff.specs.Division.{all_within}
+use Rattle.tariff.specs.Tables.{Tables, Limited}
+use Rattle.tariff.specs.declared.blocks.Block.{Block}
+use Rattle.tally.specs.Allotment.{supply_answer, allot_total, allot_claims}
+use Rattle.tally.specs.DayPrices.{needed_prices}
+use Rattle.tally.specs.Denials.{answer}
+use Rattle.tally.specs.Events.{Event, Lawfully}
+use Rattle.tally.specs.Laws.{Always}
+use Rattle.tally.specs.MakeWhole.{make_whole_claims}
+use Rattle.tally.specs.Pairs.{served, pairs_of}
+use Rattle.tally.specs.Settlement.{make_whole}
+use Rattle.tally.specs.States.{State, IsParty, hour_at}
+
+-- What is handed to a rule: as many claims as places for shares, at most 12, and each at most 500,000; and a total of at
+-- most 10^12, with a claim above 0 where it is above 0.
+pub record Handed (total : ℕ) (claims : List ℕ) (places : ℕ) : Type 0 where
+  pub equal : length claims ≡ places
+  pub few : places ≤ 12
+  pub small : total ≤ 1000000000000
+  pub within : all_within claims ≡ true
+  pub claimed : 0 < total → 0 < sum claims
+
+-- what each call that asks a rule hands to it, once the tests before are passed
+pub record HandsOver (state : State) : Type 0 where
+  pub allots : (hour : ℕ) → supply_answer state.set_up.parties (hour_at state hour) hour ≡ granted
+      → Handed (allot_total state.set_up.parties (hour_at state hour)) (allot_claims state.set_up.parties (hour_at state hour))
+      state.set_up.parties
+  pub deployments : (hour buyer mw : ℕ) → IsParty state buyer
+      → (hour_at state hour).allotted ≡ true → mw ≤ served (hour_at state hour) buyer
+      → Handed mw (pairs_of state.set_up.parties (hour_at state hour) buyer) state.set_up.parties
+  pub make_wholes : (tables : Tables) → Limited tables → (block : Block) (seller : ℕ) → IsParty state seller
+      → Handed (make_whole state (needed_prices state tables) block seller) (make_whole_claims state block seller) state.set_up.parties
+
+abbrev pub HandedWithinLimits : Type 0
+HandedWithinLimits = Always (λ tally. HandsOver tally.state)
+
+-- So of a rule's refusals, which are those from 70 on, only that for too many claims can come out of a call.
+abbrev pub OnlyClaimCountsRefused : Type 0
+OnlyClaimCountsRefused =
+    Always (λ tally. (event : Event) → Lawfully event
+    → (number first second : ℕ) → answer tally.state event ≡ denied number first second → 70 ≤ number → number ≡ 73)
