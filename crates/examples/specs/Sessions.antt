@@ -64,7 +64,7 @@ deploying =
 abbrev pub missing : List Event
 missing = enter_miss (pos 8) (pos 1) (pos 3) (pos 2) Covered ∷ deploying
 
--- the prices of the worked day, with none of the night's in real time
+-- the prices of the worked day, without real-time prices and factors at night
 abbrev pub session_tables : Tables
 session_tables = record day_tables {
   real_time = λ day hour. by_hour (Some (pos 4000)) None hour;

@@ -12,7 +12,7 @@ all_accounts parties statements = due parties statements 0 +ℤ total_z (due par
 abbrev pub AccountsBalance : Type 0
 AccountsBalance = Always (λ tally. all_accounts tally.state.set_up.parties tally.statements ≡ pos 0)
 
--- A number above the last party's has no payment on any statement, on pages that are numbered from 1.
+-- A number above the last party's has no payment on any statement, where sellers are numbered from 1.
 abbrev pub no_payment : Payment
 no_payment = record { holdback = pos 0; energy = pos 0; make_whole = pos 0; to_pool = pos 0; to_buyer = pos 0 }
 

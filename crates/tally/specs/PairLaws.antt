@@ -22,7 +22,7 @@ pub record Met (state : State) (hour : Hour) : Type 0 where
 abbrev pub PairsMeet : Type 0
 PairsMeet = Always (λ tally. (hour : ℕ) → (hour_at tally.state hour).allotted ≡ true → Met tally.state (hour_at tally.state hour))
 
--- While a day is open, a call that leaves an hour allotted leaves its entries as they were, the allot itself with them, and
+-- While a day is open, a call that leaves an hour allotted leaves its entries as they were, the allot among them, and
 -- an allotted hour keeps its holdings: confirmed requests, counted offers and surpluses are those of the allot.
 pub record Standing (old new : Hour) : Type 0 where
   pub results : new.allotted ≡ true → new.results ≡ old.results

@@ -7,7 +7,7 @@ use Rattle.tariff.specs.declared.blocks.Block.{Block}
 use Rattle.tally.specs.Allotment.{supply_answer, allot_total, allot_claims}
 use Rattle.tally.specs.DayPrices.{needed_prices}
 use Rattle.tally.specs.Denials.{answer}
-use Rattle.tally.specs.Events.{Event, Lawfully}
+use Rattle.tally.specs.Events.{Event, allot_hour, deploy, close_day, Lawfully}
 use Rattle.tally.specs.Laws.{Always}
 use Rattle.tally.specs.MakeWhole.{make_whole_claims}
 use Rattle.tally.specs.Pairs.{served, pairs_of}
@@ -37,8 +37,21 @@ pub record HandsOver (state : State) : Type 0 where
 abbrev pub HandedWithinLimits : Type 0
 HandedWithinLimits = Always (λ tally. HandsOver tally.state)
 
+-- how many claims above 0 the rule takes that a call is given
+abbrev pub most_of : Event → ℕ
+most_of (allot_hour hour most meaning) = most
+most_of (deploy hour buyer mw most meaning) = most
+most_of (close_day tables most meanings heavy_page light_page) = most
+most_of _ = 0
+
+-- too many claims: so many above 0, which are more than the rule takes
+pub record TooMany (most number count limit : ℕ) : Type 0 where
+  pub told : number ≡ 73
+  pub stated : limit ≡ most
+  pub above : limit < count
+
 -- So of a rule's refusals, which are those from 70 on, only that for too many claims can come out of a call.
 abbrev pub OnlyClaimCountsRefused : Type 0
 OnlyClaimCountsRefused =
-    Always (λ tally. (event : Event) → Lawfully event
-    → (number first second : ℕ) → answer tally.state event ≡ denied number first second → 70 ≤ number → number ≡ 73)
+    Always (λ tally. (event : Event) → Lawfully event → (number first second : ℕ)
+    → answer tally.state event ≡ denied number first second → 70 ≤ number → TooMany (most_of event) number first second)

@@ -38,11 +38,11 @@ pub record Day : Type 0 where
 abbrev pub months_of_year : ℕ
 months_of_year = 12
 
--- what a program year has come to
+-- what a program year has come to; all but its month by closed days alone
 pub record Year : Type 0 where
   -- of the last day opened in it, also where that was dropped; 0 before the first
   pub month : ℕ
-  -- by closed days alone, by seller: failure days
+  -- failure days, by seller
   pub failure_days : ℕ → ℕ
   -- the largest hourly miss, by seller and month
   pub misses : ℕ → ℕ → ℕ

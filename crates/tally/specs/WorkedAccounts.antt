@@ -63,7 +63,7 @@ abbrev pub year_figures : Tally → List ℕ
 year_figures tally =
     tally.state.year.month ∷ tally.state.year.failure_days 1 ∷ tally.state.year.misses 1 1 ∷ tally.state.year.charges 1 ∷ []
 
--- how many statements there are, and of the year
+-- how many statements there are, in all and of the year
 abbrev pub filed_figures : Tally → List ℕ
 filed_figures tally = length tally.statements ∷ length tally.of_year ∷ []
 

@@ -11,7 +11,7 @@ use Rattle.tally.specs.Statements.{Payment, statement_of}
 use Rattle.tally.specs.WorkedDay.{year_after}
 use Rattle.tally.specs.WorkedPool.{day_tables, dear_tables, day_of, met_hour, hour8, missed_day, missed_night, two_buyers, two_buyers_day}
 
--- its entry with a buyer
+-- party 1's entry with a buyer
 abbrev pub entry_of : Tables → Block → State → ℕ → Payment
 entry_of tables block state buyer = statement_of state (needed_prices state tables) (λ turn amount claims. []) block 1 buyer
 
@@ -46,7 +46,7 @@ pub record WorkedCharges : Type 0 where
   -- with two buyers the first is charged for whole, and the second for what the ceiling leaves
   pub first_buyer : (entry_of day_tables Heavy two_buyers_day 2).to_pool ≡ pos 25000
   pub second_buyer : (entry_of day_tables Heavy two_buyers_day 3).to_pool ≡ pos 15000
-  -- of 65,000 that a ceiling of 130,000 leaves, both take 25,000 each in hour 8, and 15,000 are left for hour 9
+  -- of 65,000 that a ceiling of 130,000 leaves, the charges for both buyers take 25,000 each in hour 8; 15,000 are left for hour 9
   pub later_hour : to_pool Heavy (missed_again (day_of (year_with 3 0 65000) 8 two_buyers)) ≡ pos 40000
   -- the higher of both prices counts, and none below 0
   pub dear : (entry_of dear_tables Heavy (day_of (year_with 3 0 0) 8 (hour8 2 Covered)) 3).to_pool ≡ pos 60000

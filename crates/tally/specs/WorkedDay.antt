@@ -6,10 +6,12 @@ use Rattle.tariff.specs.declared.blocks.Block.TheVariants.{Heavy, Light}
 use Rattle.tariff.specs.declared.blocks.DayKind.TheVariants.{Sunday}
 use Rattle.tariff.specs.declared.charges.Cover.TheVariants.{Covered}
 use Rattle.tally.specs.DayPrices.{needed_prices, day_ahead_at}
+use Rattle.tally.specs.Events.{open_day}
 use Rattle.tally.specs.Settlement.{holdback, energy, make_whole}
-use Rattle.tally.specs.States.{State, fresh_year}
+use Rattle.tally.specs.States.{State, fresh, fresh_year, on_hour}
+use Rattle.tally.specs.Tally.{done}
 use Rattle.tally.specs.Years.{year_closed}
-use Rattle.tally.specs.WorkedPool.{day_tables, quiet_day, missed_day, partly_held_day, missed_night, two_buyers_day}
+use Rattle.tally.specs.WorkedPool.{three, day_tables, hour8, quiet_day, missed_day, partly_held_day, missed_night, two_buyers_day}
 
 -- in a block: what party 3 pays to parties 1 and 2 for holding and for energy, and what makes them whole
 abbrev pub holdbacks : Block → State → List ℤ
@@ -21,8 +23,9 @@ energies block state = map (λ seller. energy state (needed_prices state day_tab
 abbrev pub make_wholes : Block → State → List ℕ
 make_wholes block state = map (make_whole state (needed_prices state day_tables) block) (range_with_len 1 2)
 
+-- a Sunday with the same hour 8
 abbrev pub quiet_sunday : State
-quiet_sunday = record quiet_day { day = record (quiet_day.day) { kind = Sunday } }
+quiet_sunday = on_hour 8 (λ before. hour8 0 Covered) (done (fresh three) (open_day (pos 1) Sunday (pos 1)))
 
 -- the year of party 1 after the day's close: failure days, its misses in months 1 and 2, charges
 abbrev pub year_after : State → List ℕ
@@ -59,7 +62,7 @@ pub record WorkedDay : Type 0 where
   pub sunday_holdback : holdbacks Light quiet_sunday ≡ pos 3168 ∷ pos 2376 ∷ []
   pub sunday_energy : energies Light quiet_sunday ≡ pos 9504 ∷ pos 6336 ∷ []
   pub sunday_heavy : energies Heavy quiet_sunday ≡ pos 0 ∷ pos 0 ∷ []
-  -- what the day adds to the year of party 1: nothing, or a failure day, 2 MWh in month 1, and the charge as it was cut
+  -- what the day adds to the year of party 1: nothing, or a failure day, its miss in month 1, and its charge as it was cut
   pub quiet_year : year_after quiet_day ≡ 0 ∷ 0 ∷ 0 ∷ 0 ∷ []
   pub missed_year : year_after (missed_day Covered) ≡ 1 ∷ 2 ∷ 0 ∷ 40000 ∷ []
   pub two_buyers_year : year_after two_buyers_day ≡ 1 ∷ 2 ∷ 0 ∷ 40000 ∷ []

@@ -11,11 +11,11 @@ use Rattle.tally.specs.Pairs.{pair, delivered, declined}
 use Rattle.tally.specs.States.{SetUp, hour_at}
 use Rattle.tally.specs.Tally.{tallied}
 
--- in every list the newest call stands first
+-- a pool of four parties
 abbrev pub four : SetUp
 four = record { parties = 4; full = 20000; step = 15000 }
 
--- an hour after a list of calls
+-- an hour after a list of calls, of which the newest stands first
 abbrev pub after : List Event → ℕ → Hour
 after events hour = hour_at (tallied four events).state hour
 
@@ -33,7 +33,7 @@ telling amount claims = amount ∷ claims
 abbrev pub giving : List ℕ → Division
 giving shares amount claims = shares
 
--- surpluses 1 and 3, shortfalls 20 and 5; offers 6, 4 and 9; parties 3 and 4 request some MW
+-- surpluses 1 and 3, shortfalls 20 and 5; parties 1, 2 and 4 offer 6, 4 and 9; then parties 3 and 4 request some MW
 abbrev pub offering : List Event
 offering =
     enter_offer (pos 8) (pos 4) (pos 9)
@@ -62,7 +62,7 @@ deploying = deploy (pos 8) (pos 4) (pos 2) 10 (giving (0 ∷ 2 ∷ [])) ∷ depl
 abbrev pub missing : List Event
 missing = enter_miss (pos 8) (pos 2) (pos 4) (pos 1) Uncovered ∷ enter_miss (pos 8) (pos 1) (pos 3) (pos 3) Covered ∷ deploying
 
--- a smaller deployment of party 3, and other misses with it
+-- a smaller deployment of party 3, and other misses with party 3
 abbrev pub deployed_again : Hour
 deployed_again = after (deploy (pos 8) (pos 3) (pos 3) 10 (giving (3 ∷ 0 ∷ [])) ∷ missing) 8
 

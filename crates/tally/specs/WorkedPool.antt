@@ -1,5 +1,5 @@
--- The pool and the days of the worked figures: three parties, of which the first two hold for the third. Assumes nothing.
-use Rattle.std.specs.Prelude.{ℕ, true, if◌then◌else◌, ◌&&◌, List, [], ◌∷◌, ℤ, pos, neg_ℤ, Some, ◌==◌, nat_le}
+-- The pool and the days of the worked figures: three parties, most often two that hold for the third. Assumes nothing.
+use Rattle.std.specs.Prelude.{ℕ, true, if◌then◌else◌, ◌&&◌, List, [], ◌∷◌, ℤ, pos, neg_ℤ, Some, None, Option, ◌==◌, nat_le}
 use Rattle.tariff.specs.Tables.{Tables}
 use Rattle.tariff.specs.declared.blocks.Block.{Block}
 use Rattle.tariff.specs.declared.blocks.Block.TheVariants.{Heavy, Light}
@@ -15,6 +15,10 @@ use Rattle.tally.specs.Tally.{opened}
 abbrev pub three : SetUp
 three = record { parties = 3; full = 20000; step = 15000 }
 
+-- figures that a source has for day 1 alone
+abbrev pub first_day_only : {A : Type 0} → A → ℕ → Option A
+first_day_only figure day = if day == 1 then Some figure else None
+
 -- one figure for the hours 7 to 22, and one for the night
 abbrev pub by_hour : {A : Type 0} → A → A → ℕ → A
 by_hour day night hour = if nat_le 7 hour && nat_le hour 22 then day else night
@@ -26,9 +30,9 @@ by_block heavy light Light = light
 -- day-ahead 5,000 and 3,000; real-time 4,000 and a factor of 12,000, at night 2,000 and 10,000
 abbrev pub day_tables : Tables
 day_tables = record {
-  day_ahead = λ day block. Some (by_block (pos 5000) (pos 3000) block);
-  real_time = λ day hour. Some (by_hour (pos 4000) (pos 2000) hour);
-  factor = λ day hour. Some (by_hour 12000 10000 hour);
+  day_ahead = λ day block. first_day_only (by_block (pos 5000) (pos 3000) block) day;
+  real_time = λ day hour. first_day_only (by_hour (pos 4000) (pos 2000) hour) day;
+  factor = λ day hour. first_day_only (by_hour 12000 10000 hour) day;
 }
 
 -- higher prices in real time
@@ -42,7 +46,8 @@ first_day year = opened 1 Workday 1 (record (fresh three) { year = year })
 abbrev pub day_of : Year → ℕ → Hour → State
 day_of year number hour = on_hour number (λ before. hour) (first_day year)
 
--- an hour in which party 3 requests some MW, and what parties 1 and 2 hold, are to deliver and miss of that
+-- an hour with results 30, 20 and −25 in which party 3 requests some MW: what parties 1 and 2 hold, are to deliver and miss
+-- of that, and whether others cover what party 1 misses
 abbrev pub met_hour : ℕ → (held deployed missed : List ℕ) → Cover → Hour
 met_hour request held deployed missed cover = record {
   results = replaced (replaced (replaced (λ party. pos 0) 1 (pos 30)) 2 (pos 20)) 3 (neg_ℤ (pos 25));
@@ -69,7 +74,7 @@ missed_day cover = day_of fresh_year 8 (hour8 2 cover)
 abbrev pub partly_held_day : State
 partly_held_day = on_hour 9 (λ before. met_hour 2 (2 ∷ 0 ∷ []) [] [] Covered) quiet_day
 
--- in hour 24 party 1 holds 1 MW, is to deliver it and misses it
+-- an hour in which party 1 holds 1 MW, is to deliver it and misses it; and a day with that in hour 24
 abbrev pub one_missed : Hour
 one_missed = met_hour 1 (1 ∷ []) (1 ∷ []) (1 ∷ []) Covered
 

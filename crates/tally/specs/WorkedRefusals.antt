@@ -1,4 +1,5 @@
--- Worked refusals: each call meets each refusal that it has, most of them at the edge of a limit. Assumes nothing.
+-- Worked refusals: each call meets each of its refusals, most of them at the edge of a limit; 73 of a close is shown at the
+-- tests of its divisions. Assumes nothing.
 use Rattle.std.specs.Prelude.{◌≡◌, ℕ, if◌then◌else◌, List, [], ◌∷◌, map, pos, neg_ℤ, None, Option, ◌==◌}
 use Rattle.tariff.specs.Answers.{Answer, granted, denied, in_order}
 use Rattle.tariff.specs.Blocks.{hours_of_day}
@@ -14,7 +15,7 @@ use Rattle.tally.specs.Hours.{with_result, with_offer, with_request}
 use Rattle.tally.specs.MakeWhole.{sharings_answer}
 use Rattle.tally.specs.States.{State, set_up_answer, fresh, fresh_year, on_hour, shut}
 use Rattle.tally.specs.Tally.{opened}
-use Rattle.tally.specs.WorkedPool.{three, day_tables, dear_tables, day_of, quiet_day, one_missed, missed_night}
+use Rattle.tally.specs.WorkedPool.{three, day_tables, dear_tables, day_of, hour8, quiet_day, one_missed, missed_night}
 
 -- three parties: no day yet; day 5 of month 3 open, and closed again
 abbrev pub no_day : State
@@ -24,7 +25,7 @@ abbrev pub fifth_day : State
 fifth_day = opened 5 Workday 3 no_day
 
 abbrev pub fifth_day_shut : State
-fifth_day_shut = record { set_up = three; day = shut fifth_day.day; year = fifth_day.year }
+fifth_day_shut = record fifth_day { day = shut fifth_day.day }
 
 -- the rows of a table: calls, each with its answer
 infix 70 ◌gives◌
@@ -182,7 +183,7 @@ pub record WorkedRefusals : Type 0 where
       ∷ enter_miss (pos 8) (pos 3) (pos 3) (pos 0) Covered gives granted
       ∷ enter_miss (pos 8) (pos 1) (pos 3) (pos 3) Covered gives granted
       ∷ [])
-  -- the heavy page comes first; a missing day-ahead price lacks in every hour of its block
+  -- the heavy page comes first; a missing day-ahead price is missing in every hour of its block
   pub closes : Answered quiet_day (
       closing no_quotes 10 143 145 gives denied 25 143 0
       ∷ closing no_quotes 10 144 145 gives denied 25 145 0
@@ -198,9 +199,17 @@ pub record WorkedRefusals : Type 0 where
   pub sharing_denied : sharings_answer quiet_day (needed_prices quiet_day day_tables) 0 ≡ denied 73 1 0
   pub light_sharing_denied : sharings_answer (missed_night fresh_year) (needed_prices (missed_night fresh_year) day_tables) 0
       ≡ denied 73 1 0
-  -- at a high real-time price nothing lacks, so nothing is divided
+  -- at a high real-time price nothing is lacking, so nothing is divided
   pub sharing_unneeded : sharings_answer quiet_day (needed_prices quiet_day dear_tables) 0 ≡ granted
   pub sharing_granted : sharings_answer quiet_day (needed_prices quiet_day day_tables) 1 ≡ granted
+  -- the last hour counts, too
+  pub closes_night : Answered (missed_night fresh_year) (
+      closing (no_real_time 24) 10 144 144 gives denied 66 24 2
+      ∷ [])
+  -- a close asks for the open day's prices, and the worked prices are day 1's
+  pub closes_later : Answered (on_hour 8 (λ before. hour8 0 Covered) (opened 2 Workday 1 (fresh three))) (
+      closing day_tables 10 144 144 gives denied 66 7 1
+      ∷ [])
   -- a day opened later has none of the hours of the one before: hour 8 is not allotted
   pub opened_later : Answered (opened 2 Workday 1 (record quiet_day { day = shut quiet_day.day })) (
       enter_offer (pos 8) (pos 1) (pos 1) gives granted

@@ -65,12 +65,13 @@ pub fn charges_cut_in_turn()
     ensures { ChargesCutInTurn }
 {}
 
-// Every total that a call hands to a rule lies within 0 to 10^12, and has a claim above 0 where it is above 0.
+// What a call hands to a rule is within its limits: a total from 0 to 10^12, with a claim above 0 where it is above 0, and
+// at most 12 claims of at most 500,000.
 pub fn handed_within_limits()
     ensures { HandedWithinLimits }
 {}
 
-// So of a rule's refusals only that for too many claims can come out of a call.
+// So of a rule's refusals only that for too many claims can come out of a call, with their count and the rule's limit.
 pub fn only_claim_counts_refused()
     ensures { OnlyClaimCountsRefused }
 {}
