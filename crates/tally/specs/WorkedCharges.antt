@@ -1,5 +1,5 @@
 -- Worked delivery charges of party 1, which the ceiling of its year cuts or leaves whole. Assumes nothing.
-use Rattle.std.specs.Prelude.{◌≡◌, ℕ, if◌then◌else◌, ◌&&◌, [], ◌∷◌, ℤ, pos, neg_ℤ, Some, ◌==◌}
+use Rattle.std.specs.Prelude.{◌≡◌, ℕ, if◌then◌else◌, ◌&&◌, [], ◌∷◌, ℤ, pos, ◌==◌}
 use Rattle.tariff.specs.Tables.{Tables}
 use Rattle.tariff.specs.declared.blocks.Block.{Block}
 use Rattle.tariff.specs.declared.blocks.Block.TheVariants.{Heavy, Light}
@@ -9,7 +9,7 @@ use Rattle.tally.specs.Numbered.{replaced}
 use Rattle.tally.specs.States.{State, Year, fresh_year, on_hour}
 use Rattle.tally.specs.Statements.{Payment, statement_of}
 use Rattle.tally.specs.WorkedDay.{year_after}
-use Rattle.tally.specs.WorkedPool.{day_tables, dear_tables, day_of, met_hour, hour8, missed_day, missed_night, two_buyers, two_buyers_day}
+use Rattle.tally.specs.WorkedPool.{day_tables, dear_tables, negative_tables, day_of, met_hour, hour8, missed_day, missed_night, two_buyers, two_buyers_day}
 
 -- party 1's entry with a buyer
 abbrev pub entry_of : Tables → Block → State → ℕ → Payment
@@ -20,10 +20,6 @@ to_pool block state = (entry_of day_tables block state 3).to_pool
 
 abbrev pub to_buyer : Block → State → ℤ
 to_buyer block state = (entry_of day_tables block state 3).to_buyer
-
--- prices below 0
-abbrev pub negative_tables : Tables
-negative_tables = record day_tables { day_ahead = λ day block. Some (neg_ℤ (pos 100)); real_time = λ day hour. Some (neg_ℤ (pos 50)) }
 
 -- in hour 9 party 1 is to deliver 2 MW besides, and misses 1 of them, too
 abbrev pub missed_again : State → State

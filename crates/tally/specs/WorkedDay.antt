@@ -11,7 +11,7 @@ use Rattle.tally.specs.Settlement.{holdback, energy, make_whole}
 use Rattle.tally.specs.States.{State, fresh, fresh_year, on_hour}
 use Rattle.tally.specs.Tally.{done}
 use Rattle.tally.specs.Years.{year_closed}
-use Rattle.tally.specs.WorkedPool.{three, day_tables, hour8, quiet_day, missed_day, partly_held_day, missed_night, two_buyers_day}
+use Rattle.tally.specs.WorkedPool.{three, day_tables, hour8, quiet_day, second_day, missed_day, partly_held_day, missed_night, two_buyers_day}
 
 -- in a block: what party 3 pays to parties 1 and 2 for holding and for energy, and what makes them whole
 abbrev pub holdbacks : Block → State → List ℤ
@@ -44,6 +44,8 @@ pub record WorkedDay : Type 0 where
   pub held_prices : prices_at quiet_day 8 ≡ pos 5000 ∷ pos 4000 ∷ pos 12000 ∷ []
   pub block_prices : prices_at quiet_day 9 ≡ pos 5000 ∷ pos 4000 ∷ pos 0 ∷ []
   pub no_prices : prices_at quiet_day 24 ≡ pos 0 ∷ pos 0 ∷ pos 0 ∷ []
+  -- on day 2, of which the source has none, those of day 1 are not taken
+  pub other_day : prices_at second_day 8 ≡ pos 0 ∷ pos 0 ∷ pos 0 ∷ []
   -- 10,400 + 12,000 + 53,600 = 76,000 cents for party 1 and 7,800 + 8,000 + 40,200 = 56,000 for party 2
   pub holdback_paid : holdbacks Heavy quiet_day ≡ pos 10400 ∷ pos 7800 ∷ []
   pub energy_paid : energies Heavy quiet_day ≡ pos 12000 ∷ pos 8000 ∷ []

@@ -35,9 +35,12 @@ day_tables = record {
   factor = λ day hour. first_day_only (by_hour 12000 10000 hour) day;
 }
 
--- higher prices in real time
+-- higher prices in real time, and prices below 0, on every day
 abbrev pub dear_tables : Tables
 dear_tables = record day_tables { real_time = λ day hour. Some (pos 6000) }
+
+abbrev pub negative_tables : Tables
+negative_tables = record day_tables { day_ahead = λ day block. Some (neg_ℤ (pos 100)); real_time = λ day hour. Some (neg_ℤ (pos 50)) }
 
 -- the first day of a year that has come to something before; and with one of its hours
 abbrev pub first_day : Year → State
@@ -66,6 +69,10 @@ hour8 missed cover = met_hour 7 (4 ∷ 3 ∷ []) (3 ∷ 2 ∷ []) (missed ∷ 0 
 
 abbrev pub quiet_day : State
 quiet_day = day_of fresh_year 8 (hour8 0 Covered)
+
+-- the same hour on day 2
+abbrev pub second_day : State
+second_day = on_hour 8 (λ before. hour8 0 Covered) (opened 2 Workday 1 (fresh three))
 
 abbrev pub missed_day : Cover → State
 missed_day cover = day_of fresh_year 8 (hour8 2 cover)

@@ -15,7 +15,7 @@ use Rattle.tally.specs.Hours.{with_result, with_offer, with_request}
 use Rattle.tally.specs.MakeWhole.{sharings_answer}
 use Rattle.tally.specs.States.{State, set_up_answer, fresh, fresh_year, on_hour, shut}
 use Rattle.tally.specs.Tally.{opened}
-use Rattle.tally.specs.WorkedPool.{three, day_tables, dear_tables, day_of, hour8, quiet_day, one_missed, missed_night}
+use Rattle.tally.specs.WorkedPool.{three, day_tables, dear_tables, negative_tables, day_of, quiet_day, second_day, one_missed, missed_night}
 
 -- three parties: no day yet; day 5 of month 3 open, and closed again
 abbrev pub no_day : State
@@ -207,8 +207,10 @@ pub record WorkedRefusals : Type 0 where
       closing (no_real_time 24) 10 144 144 gives denied 66 24 2
       ∷ [])
   -- a close asks for the open day's prices, and the worked prices are day 1's
-  pub closes_later : Answered (on_hour 8 (λ before. hour8 0 Covered) (opened 2 Workday 1 (fresh three))) (
+  pub closes_later : Answered second_day (
       closing day_tables 10 144 144 gives denied 66 7 1
+      ∷ closing (record negative_tables { real_time = day_tables.real_time }) 10 144 144 gives denied 66 7 2
+      ∷ closing negative_tables 10 144 144 gives denied 66 8 3
       ∷ [])
   -- a day opened later has none of the hours of the one before: hour 8 is not allotted
   pub opened_later : Answered (opened 2 Workday 1 (record quiet_day { day = shut quiet_day.day })) (
