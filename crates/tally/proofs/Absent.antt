@@ -57,7 +57,7 @@ module _ (state : State) (sound : Sound state) where
     deployed_absent : (hour : ℕ) → (hour_at state hour).deployed seller buyer ≡ 0
     deployed_absent hour = omega (arith, (sound.hours hour).ordered.deployments seller buyer, pair_absent hour)
 
-    missed_absent : (hour : ℕ) → (hour_at state hour).missed seller buyer ≡ 0
+    pub missed_absent : (hour : ℕ) → (hour_at state hour).missed seller buyer ≡ 0
     missed_absent hour = omega (arith, (sound.hours hour).ordered.misses seller buyer, deployed_absent hour)
 
     delivered_absent : (hour : ℕ) → delivered (hour_at state hour) seller buyer ≡ 0

@@ -3,16 +3,21 @@ use Rattle.std.proofs.Common.{◌≡◌, ℕ, ◌+◌, ◌-◌, ◌<◌, ◌≤�
 use Rattle.std.proofs.lemmas.Bool.{leb-true}
 use Rattle.std.proofs.lemmas.Bool.Decides.{nat_tests}
 use Rattle.tariff.specs.Answers.{granted}
+use Rattle.tariff.specs.declared.blocks.Block.{Block}
 use Rattle.tally.specs.Allotment.{counted_offer, surplus, requested, offered, spare, offers_suffice, supply_answer, allot_total, allot_claims}
+use Rattle.tally.specs.DayPrices.{DayPrices}
 use Rattle.tally.specs.Hours.{Hour}
+use Rattle.tally.specs.MakeWhole.{make_whole_claims}
 use Rattle.tally.specs.RuleLaws.{Handed, HandsOver, HandedWithinLimits, OnlyClaimCountsRefused}
 use Rattle.tally.specs.Numbered.{total, listed}
 use Rattle.tally.specs.Pairs.{pair, pairs_of}
-use Rattle.tally.specs.States.{State, hour_at}
+use Rattle.tally.specs.Settlement.{make_whole}
+use Rattle.tally.specs.States.{State, IsParty, hour_at}
 use Rattle.tally.specs.Tally.{tallied}
-use Rattle.tally.proofs.Divisions.{all_within_listed, make_wholes_divisible}
+use Rattle.tally.proofs.Divisions.{all_within_listed, make_wholes_handed, make_wholes_divisible}
 use Rattle.tally.proofs.Refusing.{answers_late}
 use Rattle.tally.proofs.Numbering.{length_listed, sum_listed, total_bound}
+use Rattle.tally.proofs.PriceSizes.{SmallPrices}
 use Rattle.tally.proofs.Overlaps.{buyers_filled, sellers_filled}
 use Rattle.tally.proofs.SetUps.{few_parties}
 use Rattle.tally.proofs.Sizes.{counted_size, surplus_size, pair_size, pairs_within}
@@ -62,14 +67,23 @@ module _ (n number : ℕ) (hour : Hour) (sound : SoundHour n hour) (few : n ≤ 
       by true is = sellers_filled hour n (sound.sums is) seller is_seller known
       by false isnt = omega (arith, pairs_within hour seller n, sound.unheld isnt seller)
 
+pairs_meet : (state : State) → Sound state → (hour seller : ℕ) → IsParty state seller
+    → total (pair (hour_at state hour) seller) state.set_up.parties ≡ (hour_at state hour).holdings seller
+pairs_meet state sound hour seller (is_seller, known) =
+    pairs_meet_holdings state.set_up.parties hour (hour_at state hour) (sound.hours hour) (few_parties state.set_up sound.proper) seller is_seller known
+
+-- what a seller lacks, at any small prices
+pub make_wholes_at : (state : State) → Sound state → (prices : DayPrices) → SmallPrices prices → (block : Block) (seller : ℕ) → IsParty state seller
+    → Handed (make_whole state prices block seller) (make_whole_claims state block seller) state.set_up.parties
+make_wholes_at state sound = make_wholes_handed state sound (pairs_meet state sound)
+
 hands_over : (state : State) → Sound state → HandsOver state
 hands_over state sound =
     let few = few_parties state.set_up sound.proper in
     record {
       allots = λ hour. allot_divided state.set_up.parties hour (hour_at state hour) (sound.hours hour) few;
       deployments = λ hour buyer mw (is_buyer, known) is. deploy_divided state.set_up.parties hour (hour_at state hour) (sound.hours hour) few is buyer mw is_buyer known;
-      make_wholes = make_wholes_divisible state sound
-          (λ hour seller (is_seller, known). pairs_meet_holdings state.set_up.parties hour (hour_at state hour) (sound.hours hour) few seller is_seller known);
+      make_wholes = make_wholes_divisible state sound (pairs_meet state sound);
     }
 
 pub handed_within_limits_lem : HandedWithinLimits

@@ -18,7 +18,7 @@ use Rattle.tally.specs.States.{State, IsParty, hour_at}
 use Rattle.tally.proofs.BlockHours.{IsHourIn, block_zero, block_greatest_bound, le_block_greatest}
 use Rattle.tally.proofs.MakeWholeSize.{make_whole_size}
 use Rattle.tally.proofs.Numbering.{total_zero, term_le, total_z_zero, length_listed, slice_index_listed, sum_listed}
-use Rattle.tally.proofs.PriceSizes.{needed_small}
+use Rattle.tally.proofs.PriceSizes.{SmallPrices, needed_small}
 use Rattle.tally.proofs.Revenue.{revenue_none, credits_none}
 use Rattle.tally.proofs.SetUps.{few_parties}
 use Rattle.tally.proofs.Sizes.{pair_size}
@@ -95,21 +95,29 @@ module _ (state : State) (sound : Sound state) (block : Block) (seller : ℕ) wh
             credits_none state prices block seller largest_holding_none,
           ) refl
 
-pub make_wholes_divisible : (state : State) → Sound state
+-- at any small prices
+pub make_wholes_handed : (state : State) → Sound state
     → ((hour seller : ℕ) → IsParty state seller → total (pair (hour_at state hour) seller) state.set_up.parties ≡ (hour_at state hour).holdings seller)
-    → (tables : Tables) → Limited tables → (block : Block) (seller : ℕ) → IsParty state seller
-    → Handed (make_whole state (needed_prices state tables) block seller) (make_whole_claims state block seller) state.set_up.parties
-make_wholes_divisible state sound meets tables limited block seller party = record {
+    → (prices : DayPrices) → SmallPrices prices → (block : Block) (seller : ℕ) → IsParty state seller
+    → Handed (make_whole state prices block seller) (make_whole_claims state block seller) state.set_up.parties
+make_wholes_handed state sound meets prices small block seller party = record {
   equal = length_listed (largest_pair state block seller) state.set_up.parties;
   few = few_parties state.set_up sound.proper;
-  small = let h = make_whole_size state sound block seller (needed_prices state tables) (needed_small state tables limited) in omega arith;
+  small = let h = make_whole_size state sound block seller prices small in omega arith;
   within = all_within_listed (largest_pair state block seller) state.set_up.parties
       (λ buyer _ _. let h = largest_pair_size state sound block seller buyer in omega arith);
   claimed = λ above. ⊎_elim
       (λ (h : 0 < sum (make_whole_claims state block seller)). h)
       (λ (h : sum (make_whole_claims state block seller) ≤ 0).
       let none = make_whole_none state sound block seller (omega (arith, sum_listed (largest_pair state block seller) state.set_up.parties))
-      (λ hour. meets hour seller party) (needed_prices state tables) in
+      (λ hour. meets hour seller party) prices in
       absurd (omega arith))
       (cases_lt 0 (sum (make_whole_claims state block seller)));
 }
+
+pub make_wholes_divisible : (state : State) → Sound state
+    → ((hour seller : ℕ) → IsParty state seller → total (pair (hour_at state hour) seller) state.set_up.parties ≡ (hour_at state hour).holdings seller)
+    → (tables : Tables) → Limited tables → (block : Block) (seller : ℕ) → IsParty state seller
+    → Handed (make_whole state (needed_prices state tables) block seller) (make_whole_claims state block seller) state.set_up.parties
+make_wholes_divisible state sound meets tables limited =
+    make_wholes_handed state sound meets (needed_prices state tables) (needed_small state tables limited)

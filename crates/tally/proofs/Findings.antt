@@ -1,5 +1,5 @@
 -- What a granted call has found. Assumes nothing.
-use Rattle.std.proofs.Common.{◌≡◌, ℕ, ◌+◌, ◌≤◌, true, false, ℤ, nat_abs}
+use Rattle.std.proofs.Common.{◌≡◌, ℕ, ◌+◌, ◌≤◌, max, true, false, ℤ, nat_abs}
 use Rattle.std.proofs.lemmas.Bool.{eqb-true, leb-true, not-true}
 use Rattle.tariff.specs.Answers.{Answer, granted, require, ◌then◌, in_order}
 use Rattle.tariff.specs.Division.{Division}
@@ -8,7 +8,7 @@ use Rattle.tariff.specs.Figures.{between}
 use Rattle.tariff.specs.Tables.{Tables}
 use Rattle.tariff.specs.declared.blocks.DayKind.{DayKind}
 use Rattle.tariff.specs.declared.charges.Cover.{Cover}
-use Rattle.tariff.specs.declared.refusal.Refusal.TheVariants.{PageSize, DayOpen, NoDayOpen, Day, Party, Figure, HourAllotted, HourNotAllotted, AboveRequest, AboveDeployment}
+use Rattle.tariff.specs.declared.refusal.Refusal.TheVariants.{PageSize, DayOpen, NoDayOpen, Day, Month, Party, Figure, HourAllotted, HourNotAllotted, AboveRequest, AboveDeployment}
 use Rattle.tally.specs.Allotment.{allot_answer}
 use Rattle.tally.specs.DayPrices.{needed_prices, needed_quotes_answer}
 use Rattle.tally.specs.Denials.{most_mw, answer, day_is_open, no_day_is_open, is_hour_at, is_party_at, is_figure_at, is_result_at, is_page}
@@ -16,7 +16,7 @@ use Rattle.tally.specs.Denials.{is_unallotted, is_allotted, is_within_served}
 use Rattle.tally.specs.Events.{open_day, enter_result, enter_offer, enter_request, allot_hour, deploy, enter_miss, close_day}
 use Rattle.tally.specs.MakeWhole.{sharings_answer}
 use Rattle.tally.specs.Pairs.{served, deploy_answer}
-use Rattle.tally.specs.States.{State, IsParty, hour_named}
+use Rattle.tally.specs.States.{State, IsParty, hour_named, months_of_year}
 use Rattle.tally.proofs.Granting.{then_first, then_next, passed, within_limits}
 
 module _ (state : State) where
@@ -107,18 +107,21 @@ module _ (state : State) where
         within = leb-true _ _ (passed _ (AboveDeployment (nat_abs seller) (nat_abs buyer)) (then_next (is_allotted state hour) _ sixth));
       }
 
-  pub record Opening (day : ℤ) : Type 0 where
+  pub record Opening (day month : ℤ) : Type 0 where
     pub shut : state.day.is_open ≡ false
     pub later : state.day.number + 1 ≤ nat_abs day
     pub last : nat_abs day ≤ 4000
+    pub in_year : (max 1 state.year.month ≤ nat_abs month) × (nat_abs month ≤ 12)
 
-  pub open_found : (day : ℤ) (kind : DayKind) (month : ℤ) → answer state (open_day day kind month) ≡ granted → Opening day
+  pub open_found : (day : ℤ) (kind : DayKind) (month : ℤ) → answer state (open_day day kind month) ≡ granted → Opening day month
   open_found day kind month ok =
-      let limits = within_limits (state.day.number + 1) last_day day (passed _ (Day 1) (then_first test _ (then_next (no_day_is_open state) _ ok))) in
+      let second = then_next (no_day_is_open state) _ ok in
+      let limits = within_limits (state.day.number + 1) last_day day (passed _ (Day 1) (then_first test _ second)) in
       record {
         shut = not-true _ (passed _ DayOpen (then_first (no_day_is_open state) _ ok));
         later = limits.0;
         last = limits.1;
+        in_year = within_limits (max 1 state.year.month) months_of_year month (passed _ (Month 3) (then_next test _ second));
       }
     where
       test : Answer

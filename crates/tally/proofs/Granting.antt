@@ -16,6 +16,7 @@ then_next granted b e = e
 then_next (denied number first second) b e = let z : ◌≡◌ {A = ℕ} 0 1 = cc in absurd (omega arith)
 
 pub in_order_lem : (test : ℕ → Answer) (k n : ℕ) → in_order test n ≡ granted → 0 < k → k ≤ n → test k ≡ granted
+unfolding in_order
 in_order_lem test k zero e h l = absurd (omega arith)
 in_order_lem test k (suc n) e h l =
     ⊎_elim

@@ -64,6 +64,7 @@ both_late : {most : ℕ} → (a b : Answer) → Late most a → Late most b → 
 both_late a b p q = then_late a b p (λ _. q)
 
 in_order_late : {most : ℕ} → (f : ℕ → Answer) (n : ℕ) → ((k : ℕ) → 0 < k → k ≤ n → Late most (f k)) → Late most (in_order f n)
+unfolding in_order
 in_order_late f zero h = granted_late
 in_order_late f (suc n) h =
     then_late (in_order f n) (f (suc n)) (in_order_late f n (λ k l m. h k l (omega arith))) (λ _. h (suc n) (omega arith) (omega arith))

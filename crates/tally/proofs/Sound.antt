@@ -1,8 +1,9 @@
 -- What every state that calls lead to keeps. Assumes nothing.
 use Rattle.std.proofs.Common.{◌≡◌, ℕ, ◌+◌, ◌≤◌, max, Bool, true, false, cond, eqb, List, [], ◌∷◌, nat_abs, arith}
-use Rattle.std.proofs.lemmas.Bool.{false≢true}
+use Rattle.std.proofs.lemmas.Bool.{false≢true, both_ways, not-true}
 use Rattle.tariff.specs.Blocks.{hours_of_day}
 use Rattle.tariff.specs.Answers.{granted}
+use Rattle.tariff.specs.declared.refusal.Refusal.TheVariants.{DayOpen}
 use Rattle.tally.specs.Allotment.{allotted_by}
 use Rattle.tally.specs.Charges.{missed_at, is_failure_day, month_miss}
 use Rattle.tally.specs.Denials.{answer}
@@ -13,6 +14,7 @@ use Rattle.tally.specs.Pairs.{deployed_by}
 use Rattle.tally.specs.States.{State, SetUp, Proper, on_hour, hour_at}
 use Rattle.tally.specs.Tally.{done, tallied}
 use Rattle.tally.proofs.Findings.{open_found, result_found, offer_found, request_found, allot_found, deploy_found, miss_found, close_found}
+use Rattle.tally.proofs.Granting.{passed}
 use Rattle.tally.proofs.Numbering.{greatest_bound}
 use Rattle.tally.proofs.Sizes.{misses_size}
 use Rattle.tally.proofs.SoundHours.{SoundHour, replaced_has, blank_sound, result_sound, offer_sound, request_sound, allot_sound, deploy_sound, miss_sound}
@@ -25,6 +27,8 @@ pub record Sound (state : State) : Type 0 where
   -- days of failure are closed days; a month's miss is what one hour's holdings are at most
   pub failures : (seller : ℕ) → state.year.failure_days seller + cond state.day.is_open 1 0 ≤ state.day.number
   pub misses : (seller month : ℕ) → state.year.misses seller month ≤ 10000
+  -- an open day is in a month of the year
+  pub month : state.day.is_open ≡ true → (1 ≤ state.year.month) × (state.year.month ≤ 12)
 
 -- one hour changed
 on_hour_lem : (state : State) (hour : ℕ) (change : Hour → Hour) → Sound state → SoundHour state.set_up.parties (change (hour_at state hour)) → Sound (on_hour hour change state)
@@ -34,6 +38,7 @@ on_hour_lem state hour change sound new = record {
   number = sound.number;
   failures = sound.failures;
   misses = sound.misses;
+  month = sound.month;
 }
 
 opens : (is_open : Bool) (failures old new : ℕ) → old + 1 ≤ new → failures + cond is_open 1 0 ≤ old → failures + 1 ≤ new
@@ -74,6 +79,7 @@ done_sound state (open_day day kind month) sound lawful ok =
       number = found.last;
       failures = λ s. opens state.day.is_open _ state.day.number (nat_abs day) found.later (sound.failures s);
       misses = sound.misses;
+      month = λ _. (omega (arith, found.in_year), found.in_year.1);
     }
 done_sound state (enter_result hour party mw) sound lawful ok =
     let found = result_found state hour party mw ok in
@@ -107,6 +113,7 @@ done_sound state (close_day tables most meanings heavy_page light_page) sound la
   failures = λ s. closes state.day.is_open (is_failure_day state s) (state.year.failure_days s) state.day.number
       (close_found state tables most meanings heavy_page light_page ok).is_open (sound.failures s);
   misses = month_miss_size state sound;
+  month = λ e. absurd (false≢true e);
 }
 done_sound state void_day sound lawful ok = record {
   proper = sound.proper;
@@ -114,6 +121,7 @@ done_sound state void_day sound lawful ok = record {
   number = sound.number;
   failures = λ s. voids state.day.is_open (state.year.failure_days s) state.day.number (sound.failures s);
   misses = sound.misses;
+  month = λ e. absurd (false≢true e);
 }
 done_sound state start_year sound lawful ok = record {
   proper = sound.proper;
@@ -121,6 +129,7 @@ done_sound state start_year sound lawful ok = record {
   number = sound.number;
   failures = λ s. omega (arith, sound.failures s);
   misses = λ s m. omega arith;
+  month = λ e. absurd (both_ways state.day.is_open (not-true _ (passed _ DayOpen ok)) e);
 }
 
 pub sound : (set_up : SetUp) (events : List Event) → Proper set_up → AllLawful events → Sound (tallied set_up events).state
@@ -130,6 +139,7 @@ sound set_up [] proper lawful = record {
   number = omega arith;
   failures = λ s. omega arith;
   misses = λ s m. omega arith;
+  month = λ e. absurd (false≢true e);
 }
 sound set_up (event ∷ events) proper (lawful, others) =
     let before = (tallied set_up events).state in

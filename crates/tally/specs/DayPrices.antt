@@ -1,8 +1,8 @@
 -- The prices by which a day is settled, and which of them a close needs. Assumes nothing.
-use Rattle.std.specs.Prelude.{ℕ, Bool, if◌then◌else◌, not, ◌||◌, ℤ, pos, Option, is_some, nat_lt}
+use Rattle.std.specs.Prelude.{ℕ, Bool, if◌then◌else◌, not, ◌&&◌, ◌||◌, ℤ, pos, Option, is_some, nat_lt}
 use Rattle.std.specs.Option.{unwrap_or}
 use Rattle.tariff.specs.Answers.{Answer, require, ◌then◌}
-use Rattle.tariff.specs.Blocks.{block_of, same_block, hours_of_day}
+use Rattle.tariff.specs.Blocks.{block_of, same_block, hours_of_day, is_hour}
 use Rattle.tariff.specs.Prices.{hour_prices, initial_terms}
 use Rattle.tariff.specs.Tables.{Tables}
 use Rattle.tariff.specs.declared.blocks.Block.{Block}
@@ -44,9 +44,9 @@ module _ (state : State) where
   unfoldable pub is_held_in : Block → Bool
   is_held_in block = nat_lt 0 (total (λ hour. if in_block block hour then held_at hour else 0) hours_of_day)
 
-  -- whether any MW is held in the block of an hour, so that its prices are needed
+  -- whether a number is an hour of the day in whose block any MW is held, so that its prices are needed
   abbrev pub is_priced : ℕ → Bool
-  is_priced hour = is_held_in (block_at hour)
+  is_priced hour = is_hour hour && is_held_in (block_at hour)
 
   -- Where any MW is held in a block, its day-ahead price is needed, and every hour's real-time price; and the factor in
   -- each hour in which any is held.

@@ -23,7 +23,7 @@ granted then b = b
 (denied number first second) then b = denied number first second
 
 -- tests by number, from 1 on
-abbrev pub in_order : (ℕ → Answer) → ℕ → Answer
+unfoldable pub in_order : (ℕ → Answer) → ℕ → Answer
 in_order test zero = granted
 in_order test (suc n) = in_order test n then test (suc n)
 

@@ -1,0 +1,17 @@
+use Rattle.std.proofs.Common.{◌≡◌, ℕ, suc, ◌<◌, ◌≤◌, length}
+use Rattle.tally.specs.Charges.{cut_charge}
+use Rattle.tally.specs.States.{IsParty}
+use Rattle.book.specs.Books.{state_of}
+use Rattle.book.specs.CutTables.{left_after, entry_in, SmallEntries}
+use Rattle.book.specs.PricedDays.{prices_in}
+use Rattle.book.proofs.book.Book.cut_charges.Given as goal
+
+abbrev pub invariant-loop-hour : goal.invariant-loop-hour
+invariant-loop-hour l = record {
+  room : l.left ≡ left_after (state_of l.self) (prices_in l.prices) (suc l.seller.place) l.hour;
+  cuts : (hour : ℕ) → 0 < hour → hour ≤ l.hour → (buyer : ℕ) → IsParty (state_of l.self) buyer
+      → entry_in l.cuts hour buyer ≡ cut_charge (state_of l.self) (prices_in l.prices) (suc l.seller.place) hour buyer;
+  others : (hour buyer : ℕ) → l.self.pool.parties < buyer → entry_in l.cuts hour buyer ≡ 0;
+  small : SmallEntries l.cuts;
+  length : length l.cuts ≡ 24;
+}

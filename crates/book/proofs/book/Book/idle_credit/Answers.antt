@@ -1,0 +1,18 @@
+use Rattle.std.proofs.Common.{suc, cond, pos, ◌*ℤ◌, rules, arith}
+use Rattle.std.proofs.lemmas.Int.{ints}
+use Rattle.tally.specs.Settlement.{idle_credit, largest_holding, holds_at}
+use Rattle.book.specs.Books.{state_of}
+use Rattle.book.specs.PricedDays.{prices_in}
+use Rattle.book.proofs.book.Book.idle_credit.Goals as goal
+
+pub returns-clause-value : goal.returns-clause-value
+unfolding idle_credit
+returns-clause-value c =
+    let a = c.args in
+    let S = state_of a.self.now in
+    let P = prices_in a.prices.now in
+    let seller = suc a.seller.place in
+    let e = c.block_total.ensures.value
+    (λ hour. cond (holds_at S seller hour) (pos 0) (pos (largest_holding S a.block seller) *ℤ P.real_time hour))
+    (λ hour n post. search rules) in
+    omega (arith, ints, e)

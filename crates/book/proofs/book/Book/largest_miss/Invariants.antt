@@ -1,0 +1,11 @@
+use Rattle.std.proofs.Common.{◌≡◌, ◌≤◌, suc}
+use Rattle.tally.specs.Charges.{missed_at}
+use Rattle.tally.specs.Numbered.{greatest}
+use Rattle.book.specs.Books.{state_of}
+use Rattle.book.proofs.book.Book.largest_miss.Given as goal
+
+abbrev pub invariant-loop-hour : goal.invariant-loop-hour
+invariant-loop-hour l = record {
+  most : l.largest ≡ greatest (missed_at (state_of l.self) (suc l.seller.place)) l.hour;
+  small : l.largest ≤ 10000;
+}

@@ -1,0 +1,66 @@
+// Closing a day.
+ghost use Rattle.std.specs.Prelude.{◌≡◌, ◌≢◌, IfOk, length};
+ghost use Rattle.tariff.specs.Answers.{told, granted};
+ghost use Rattle.book.specs.Books.{state_of};
+ghost use Rattle.book.specs.Closings.{SettledBy, close_answer};
+ghost use Rattle.book.specs.Enters.{Did};
+
+use crate::book::Book;
+use crate::book::closing::posting::post;
+use crate::book::settling::Settled;
+use crate::entry::Entry;
+use crate::statement::Statement;
+use tariff::division::DivisionRule;
+use tariff::refusal::Refusal;
+use tariff::source::PriceSource;
+
+mod netting;
+mod posting;
+mod year;
+
+impl Book {
+    // What a close comes to, once all its tests are passed: only then does the rule divide.
+    fn closing<S: PriceSource, R: DivisionRule>(
+        &self,
+        source: &S,
+        rule: &mut R,
+        statement: &Statement<'_>,
+    ) -> Result<Settled, Refusal>
+        ensures answer { told result ≡ close_answer (state_of self.now) (S.tables source.now) R.LIMIT
+            (length statement.now.heavy.now) (length statement.now.light.now) }
+        ensures same { told result ≢ granted → rule.new ≡ rule.old }
+        ensures settled { IfOk result (λ settled. SettledBy (S.tables source.now) R.LIMIT R.moves (state_of self.now)
+            (R.meaning rule.old) settled.heavy settled.light settled.charges (R.meaning rule.new)) }
+    {
+        statement.check()?;
+        self.require_open()?;
+        let prices = self.price(source)?;
+        let shares = self.share_both(&prices, rule)?;
+        Ok(self.settle(&prices, &shares))
+    }
+
+    // Settles the open day by a source's prices, fills both pages of the statement, and posts every payment to both
+    // balances.
+    pub fn close_day<S: PriceSource, R: DivisionRule>(
+        &mut self,
+        source: &S,
+        rule: &mut R,
+        statement: &mut Statement<'_>,
+    ) -> Result<(), Refusal>
+        ensures did { Did (S.tables source.now) R.LIMIT R.moves Entry.Close self.old (R.meaning rule.old)
+            (record { old = statement.old.heavy.now; new = statement.new.heavy.now })
+            (record { old = statement.old.light.now; new = statement.new.light.now })
+            (told result) self.new (R.meaning rule.new) }
+        ensures heavy { statement.new.heavy.ghost_name ≡ statement.old.heavy.ghost_name }
+        ensures light { statement.new.light.ghost_name ≡ statement.old.light.ghost_name }
+    {
+        let settled = self.closing(source, rule, statement)?;
+        statement.fill(&settled.heavy, &settled.light);
+        let year = self.closed_year(&settled.charges);
+        let parties = self.parties();
+        post(&mut self.balances, parties, &settled.heavy, &settled.light);
+        self.year = year;
+        self.day.is_open = false;
+        Ok(())
+    }
+}

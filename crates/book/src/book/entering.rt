@@ -1,0 +1,49 @@
+// Any of the ten calls, as an entry.
+ghost use Rattle.std.specs.Prelude.{◌≡◌};
+ghost use Rattle.tariff.specs.Answers.{told};
+ghost use Rattle.book.specs.Enters.{Enters};
+
+use crate::book::Book;
+use crate::entry::Entry;
+use crate::statement::Statement;
+use tariff::division::DivisionRule;
+use tariff::refusal::Refusal;
+use tariff::source::PriceSource;
+
+impl Book {
+    // Makes the call that an entry is. Only a close asks the source and fills the statement, and only an allot, a
+    // deployment and a close consult the rule.
+    pub fn enter<S: PriceSource, R: DivisionRule>(
+        &mut self,
+        entry: Entry,
+        source: &S,
+        rule: &mut R,
+        statement: &mut Statement<'_>,
+    ) -> Result<(), Refusal>
+        ensures enters { Enters (S.tables source.now) R.LIMIT R.moves entry self.old (R.meaning rule.old)
+            (record { old = statement.old.heavy.now; new = statement.new.heavy.now })
+            (record { old = statement.old.light.now; new = statement.new.light.now })
+            (told result) self.new (R.meaning rule.new) }
+        ensures heavy { statement.new.heavy.ghost_name ≡ statement.old.heavy.ghost_name }
+        ensures light { statement.new.light.ghost_name ≡ statement.old.light.ghost_name }
+    {
+        match entry {
+            Entry::Open { day, kind, month } => self.open_day(day, kind, month),
+            Entry::Result { hour, party, mw } => self.enter_result(hour, party, mw),
+            Entry::Offer { hour, party, mw } => self.enter_offer(hour, party, mw),
+            Entry::Request { hour, party, mw } => self.enter_request(hour, party, mw),
+            Entry::Allot { hour } => self.allot(hour, rule),
+            Entry::Deploy { hour, buyer, mw } => self.deploy(hour, buyer, mw, rule),
+            Entry::Miss {
+                hour,
+                seller,
+                buyer,
+                mwh,
+                cover,
+            } => self.enter_miss(hour, seller, buyer, mwh, cover),
+            Entry::Close => self.close_day(source, rule, statement),
+            Entry::Void => self.void_day(),
+            Entry::Year => self.start_year(),
+        }
+    }
+}

@@ -1,0 +1,115 @@
+// Delivery charges of the open day.
+ghost use Rattle.std.specs.Prelude.{◌≡◌, ◌≤◌, ◌<◌, suc, ℕ};
+ghost use Rattle.std.specs.Int.{int_max};
+ghost use Rattle.tally.specs.Charges.{charge, cut_charge, failure_days};
+ghost use Rattle.tally.specs.DayPrices.{day_ahead_at};
+ghost use Rattle.tally.specs.Numbered.{positive_part};
+ghost use Rattle.tally.specs.States.{IsParty, hour_at};
+ghost use Rattle.book.specs.Books.{state_of};
+ghost use Rattle.book.specs.CutTables.{left_after, entry_in, HasCuts, SmallEntries};
+ghost use Rattle.book.specs.PricedDays.{prices_in};
+ghost use Rattle.book.specs.Records.{at};
+
+use crate::book::Book;
+use crate::places::{HourPlace, PartyPlace};
+use crate::priced_day::PricedDay;
+use crate::records::{ByHour, ByParty, HOURS, PARTIES};
+
+impl Book {
+    // The day-ahead price in an hour.
+    fn day_ahead_at(&self, prices: &PricedDay, hour: HourPlace) -> i64
+        ensures { result ≡ day_ahead_at (state_of self.now) (prices_in prices.now) (suc hour.place) }
+    {
+        prices.day_ahead(hour.block(self.day.kind))
+    }
+
+    // What a missed MWh is charged by in an hour, before the factor: the higher price, or 0 where both are below.
+    pub(crate) fn charged_price(&self, prices: &PricedDay, hour: HourPlace) -> u64
+        ensures value { let prices = prices_in prices.now in let hour = suc hour.place in
+            result ≡ positive_part (int_max (day_ahead_at (state_of self.now) prices hour) (prices.real_time hour)) }
+        ensures size { result ≤ 1000000 }
+    {
+        let day_ahead = self.day_ahead_at(prices, hour);
+        let higher = day_ahead.max(prices.real_time[hour.place]);
+        higher.max(0) as u64
+    }
+
+    // What a seller is charged for a buyer in an hour before the ceiling, on its failure day of that number.
+    pub(crate) fn charge(
+        &self,
+        prices: &PricedDay,
+        failure_day: u64,
+        seller: PartyPlace,
+        hour: HourPlace,
+        buyer: PartyPlace,
+    ) -> u64
+        requires { failure_day ≡ failure_days (state_of self.now) (suc seller.place) }
+        ensures value { result
+            ≡ charge (state_of self.now) (prices_in prices.now) (suc seller.place) (suc hour.place) (suc buyer.place) }
+        ensures size { result ≤ 500000000000 }
+    {
+        let factor = self.cover(hour, seller, buyer).delivery_factor(failure_day);
+        factor * self.charged_price(prices, hour) * self.missed(hour, seller, buyer)
+    }
+
+    // A seller's charges of an hour by buyer, each cut to what the ceiling still allows, which is `left`.
+    fn cut_hour(
+        &self,
+        prices: &PricedDay,
+        failure_day: u64,
+        seller: PartyPlace,
+        hour: HourPlace,
+        left: &mut u64,
+    ) -> ByParty<u64>
+        requires day { failure_day ≡ failure_days (state_of self.now) (suc seller.place) }
+        requires before { left.old
+            ≡ left_after (state_of self.now) (prices_in prices.now) (suc seller.place) hour.place }
+        ensures cuts { let state = state_of self.now in let prices = prices_in prices.now in
+            (buyer : ℕ) → IsParty state buyer
+            → at 0 result buyer ≡ cut_charge state prices (suc seller.place) (suc hour.place) buyer }
+        ensures others { (buyer : ℕ) → self.now.pool.parties < buyer → at 0 result buyer ≡ 0 }
+        ensures small { (buyer : ℕ) → at 0 result buyer ≤ 500000000000 }
+        ensures after { left.new
+            ≡ left_after (state_of self.now) (prices_in prices.now) (suc seller.place) (suc hour.place) }
+    {
+        let mut cuts = [0; PARTIES];
+        for buyer in 0..self.parties() {
+            let charge = self.charge(
+                prices,
+                failure_day,
+                seller,
+                hour,
+                PartyPlace { place: buyer },
+            );
+            let cut = charge.min(*left);
+            *left -= cut;
+            cuts[buyer] = cut;
+        }
+        cuts
+    }
+
+    // A seller's charges of the day, each cut to what the ceiling still allows by hour, then buyer.
+    pub(crate) fn cut_charges(&self, prices: &PricedDay, seller: PartyPlace) -> ByHour<ByParty<u64>>
+        ensures cuts { HasCuts (state_of self.now) (prices_in prices.now) (suc seller.place) result }
+        ensures others { (hour buyer : ℕ) → self.now.pool.parties < buyer → entry_in result hour buyer ≡ 0 }
+        ensures small { SmallEntries result }
+    {
+        let mut cuts = [[0; PARTIES]; HOURS];
+        // Most sellers miss nothing in a day.
+        if !self.is_failure_day(seller) {
+            return cuts;
+        }
+        let failure_day = self.failure_days(seller);
+        let mut left = self.allowance(seller);
+        for hour in 0..HOURS {
+            cuts[hour] = self.cut_hour(
+                prices,
+                failure_day,
+                seller,
+                HourPlace { place: hour },
+                &mut left,
+            );
+        }
+        cuts
+    }
+}

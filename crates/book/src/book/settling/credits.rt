@@ -1,0 +1,89 @@
+// A seller's block sale revenue, and what is credited against it.
+ghost use Rattle.std.specs.Prelude.{◌≡◌, ◌≤◌, suc, unsigned_abs};
+ghost use Rattle.tally.specs.Settlement.{largest_holding, revenue, declined_at, declined_credit, idle_credit, credits};
+ghost use Rattle.book.specs.Books.{state_of};
+ghost use Rattle.book.specs.PricedDays.{prices_in};
+
+use crate::amounts::at_price;
+use crate::book::Book;
+use crate::places::{HourPlace, PartyPlace};
+use crate::priced_day::PricedDay;
+use tariff::blocks::Block;
+
+impl Book {
+    // The largest hourly holding.
+    pub(crate) fn largest_holding(&self, block: Block, seller: PartyPlace) -> u64
+        ensures value { result ≡ largest_holding (state_of self.now) block (suc seller.place) }
+        ensures size { result ≤ 10000 }
+    {
+        self.block_greatest(block, |hour| self.held(hour, seller))
+    }
+
+    // That holding at the day-ahead price in every hour of the block.
+    pub(crate) fn revenue(&self, prices: &PricedDay, block: Block, seller: PartyPlace) -> i64
+        ensures value { result ≡ revenue (state_of self.now) (prices_in prices.now) block (suc seller.place) }
+        ensures size { unsigned_abs result ≤ 12000000000000 }
+    {
+        let amount = at_price(self.largest_holding(block, seller), prices.day_ahead(block));
+        self.block_total(block, |_| amount)
+    }
+
+    // MWh that a seller's buyers decline in an hour.
+    pub(crate) fn declined_at(&self, seller: PartyPlace, hour: HourPlace) -> u64
+        ensures value { result ≡ declined_at (state_of self.now) (suc seller.place) (suc hour.place) }
+        ensures size { result ≤ 10000 }
+    {
+        let mut total = 0;
+        for place in 0..self.parties() {
+            total += self.declined(hour, seller, PartyPlace { place });
+        }
+        total
+    }
+
+    // Declined MWh at the energy price, in hours where the seller holds.
+    pub(crate) fn declined_credit(
+        &self,
+        prices: &PricedDay,
+        block: Block,
+        seller: PartyPlace,
+    ) -> i64
+        requires { prices.now.kind ≡ self.now.day.kind }
+        ensures value { result ≡ declined_credit (state_of self.now) (prices_in prices.now) block (suc seller.place) }
+        ensures size { unsigned_abs result ≤ 12000000000000 }
+    {
+        self.block_total(block, |hour| {
+            if self.held(hour, seller) > 0 {
+                at_price(
+                    self.declined_at(seller, hour),
+                    self.hour_prices(prices, hour).energy,
+                )
+            } else {
+                0
+            }
+        })
+    }
+
+    // The largest holding at the real-time price, in hours where it holds nothing.
+    pub(crate) fn idle_credit(&self, prices: &PricedDay, block: Block, seller: PartyPlace) -> i64
+        ensures value { result ≡ idle_credit (state_of self.now) (prices_in prices.now) block (suc seller.place) }
+        ensures size { unsigned_abs result ≤ 12000000000000 }
+    {
+        let largest = self.largest_holding(block, seller);
+        self.block_total(block, |hour| {
+            if self.held(hour, seller) > 0 {
+                0
+            } else {
+                at_price(largest, prices.real_time_in(hour))
+            }
+        })
+    }
+
+    // Both credits.
+    pub(crate) fn credits(&self, prices: &PricedDay, block: Block, seller: PartyPlace) -> i64
+        requires { prices.now.kind ≡ self.now.day.kind }
+        ensures value { result ≡ credits (state_of self.now) (prices_in prices.now) block (suc seller.place) }
+        ensures size { unsigned_abs result ≤ 24000000000000 }
+    {
+        self.declined_credit(prices, block, seller) + self.idle_credit(prices, block, seller)
+    }
+}

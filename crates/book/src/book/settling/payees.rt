@@ -1,0 +1,120 @@
+// What of a seller's charges goes to the pool and to buyers, and what they come to.
+ghost use Rattle.std.specs.Prelude.{◌≡◌, ◌≤◌, ◌<◌, suc, ℕ, pos, if◌then◌else◌, unsigned_abs};
+ghost use Rattle.tally.specs.Charges.{pool_charge, buyer_charge};
+ghost use Rattle.tally.specs.DayPrices.{DayPrices, in_block};
+ghost use Rattle.tally.specs.Numbered.{total};
+ghost use Rattle.tally.specs.Settlement.{block_total};
+ghost use Rattle.tally.specs.States.{hour_at};
+ghost use Rattle.tally.specs.Years.{day_charges};
+ghost use Rattle.book.specs.Books.{state_of};
+ghost use Rattle.book.specs.CutTables.{entry_in, HasCuts, SmallEntries, payee_part};
+ghost use Rattle.book.specs.Records.{at};
+
+use crate::book::Book;
+use crate::places::{HourPlace, PartyPlace};
+use crate::records::{ByHour, ByParty, HOURS};
+use crate::sums::total;
+use crate::tables::get_in_row;
+use tariff::blocks::Block;
+use tariff::charges::Cover;
+
+impl Book {
+    // What goes in an hour to the payee of misses that are so covered.
+    fn part_at(
+        &self,
+        cuts: &ByHour<ByParty<u64>>,
+        block: Block,
+        cover: Cover,
+        seller: PartyPlace,
+        hour: HourPlace,
+        buyer: PartyPlace,
+    ) -> u64
+        requires { SmallEntries cuts.now }
+        ensures value { let state = state_of self.now in let number = suc hour.place in
+            let covered = (hour_at state number).cover (suc seller.place) (suc buyer.place) in
+            pos result ≡ (if in_block state block number
+            then pos (payee_part cover covered (entry_in cuts.now number (suc buyer.place)))
+            else pos 0) }
+        ensures size { result ≤ 500000000000 }
+    {
+        if self.in_block(block, hour) && self.cover(hour, seller, buyer) == cover {
+            get_in_row(&cuts[hour.place], buyer)
+        } else {
+            0
+        }
+    }
+
+    // What goes in a block to the payee of misses that are so covered.
+    fn of_payee(
+        &self,
+        cuts: &ByHour<ByParty<u64>>,
+        block: Block,
+        cover: Cover,
+        seller: PartyPlace,
+        buyer: PartyPlace,
+    ) -> i64
+        requires { SmallEntries cuts.now }
+        ensures value { let state = state_of self.now in let number = suc buyer.place in
+            result ≡ block_total state block (λ hour. pos
+            (payee_part cover ((hour_at state hour).cover (suc seller.place) number) (entry_in cuts.now hour number))) }
+        ensures size { unsigned_abs result ≤ 12000000000000 }
+    {
+        let mut all = 0;
+        for hour in 0..HOURS {
+            all += self.part_at(cuts, block, cover, seller, HourPlace { place: hour }, buyer);
+        }
+        all as i64
+    }
+
+    // What a seller pays to the pool for a buyer in a block, by a table of its charges.
+    pub(crate) fn to_pool(
+        &self,
+        cuts: &ByHour<ByParty<u64>>,
+        block: Block,
+        seller: PartyPlace,
+        buyer: PartyPlace,
+    ) -> i64
+        requires small { SmallEntries cuts.now }
+        requires party { buyer.place < self.now.pool.parties }
+        ensures value { let state = state_of self.now in
+            (prices : DayPrices) → HasCuts state prices (suc seller.place) cuts.now
+            → result ≡ block_total state block (λ hour.
+            pos (pool_charge state prices (suc seller.place) hour (suc buyer.place))) }
+        ensures size { unsigned_abs result ≤ 12000000000000 }
+    {
+        self.of_payee(cuts, block, Cover::Covered, seller, buyer)
+    }
+
+    // What it pays to the buyer.
+    pub(crate) fn to_buyer(
+        &self,
+        cuts: &ByHour<ByParty<u64>>,
+        block: Block,
+        seller: PartyPlace,
+        buyer: PartyPlace,
+    ) -> i64
+        requires small { SmallEntries cuts.now }
+        requires party { buyer.place < self.now.pool.parties }
+        ensures value { let state = state_of self.now in
+            (prices : DayPrices) → HasCuts state prices (suc seller.place) cuts.now
+            → result ≡ block_total state block (λ hour.
+            pos (buyer_charge state prices (suc seller.place) hour (suc buyer.place))) }
+        ensures size { unsigned_abs result ≤ 12000000000000 }
+    {
+        self.of_payee(cuts, block, Cover::Uncovered, seller, buyer)
+    }
+
+    // What a seller is charged in the day, by a table of its charges.
+    pub(crate) fn day_charges(&self, cuts: &ByHour<ByParty<u64>>) -> u64
+        requires { SmallEntries cuts.now }
+        ensures value { (prices : DayPrices) (seller : ℕ) → HasCuts (state_of self.now) prices seller cuts.now
+            → result ≡ day_charges (state_of self.now) prices seller }
+        ensures size { result ≤ 144000000000000 }
+    {
+        let mut all = 0;
+        for hour in 0..HOURS {
+            all += total(&cuts[hour], self.parties());
+        }
+        all
+    }
+}

@@ -1,0 +1,41 @@
+// One call of a list.
+ghost use Rattle.std.specs.Prelude.{◌≡◌};
+ghost use Rattle.tariff.specs.Answers.{told};
+ghost use Rattle.book.specs.Enters.{Enters};
+
+use crate::book::Book;
+use crate::entry::Entry;
+use crate::payment::Payment;
+use crate::statement::Statement;
+use tariff::division::DivisionRule;
+use tariff::refusal::Refusal;
+use tariff::source::PriceSource;
+
+// An entry with the source, the rule and the two pages that it brings, and what the call was told.
+pub struct Call<S, R> {
+    pub entry: Entry,
+    pub source: S,
+    pub rule: R,
+    pub heavy: [Payment; 144],
+    pub light: [Payment; 144],
+    pub told: Result<(), Refusal>,
+}
+
+impl<S: PriceSource, R: DivisionRule> Call<S, R> {
+    // Makes the call, and keeps what it was told.
+    pub fn make(&mut self, book: &mut Book)
+        ensures enters { Enters (S.tables self.old.source) R.LIMIT R.moves self.old.entry book.old
+            (R.meaning self.old.rule)
+            (record { old = self.old.heavy; new = self.new.heavy })
+            (record { old = self.old.light; new = self.new.light })
+            (told self.new.told) book.new (R.meaning self.new.rule) }
+        ensures entry { self.new.entry ≡ self.old.entry }
+        ensures source { self.new.source ≡ self.old.source }
+    {
+        let mut statement = Statement {
+            heavy: &mut self.heavy,
+            light: &mut self.light,
+        };
+        self.told = book.enter(self.entry, &self.source, &mut self.rule, &mut statement);
+    }
+}
