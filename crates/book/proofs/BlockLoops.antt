@@ -1,12 +1,12 @@
 -- Loops over the hours of a block. Assumes nothing.
-use Rattle.std.proofs.Common.{◌≡◌, ℕ, suc, ◌+◌, max, Bool, true, false, cond, ℤ, pos, ◌+ℤ◌, ap, ◌∙◌, add-one, arith}
+use Rattle.std.proofs.Common.{◌≡◌, ℕ, suc, ◌+◌, Bool, true, false, cond, ℤ, pos, ◌+ℤ◌, ap, ◌∙◌, add-one, arith}
 use Rattle.std.proofs.lemmas.Int.{ints}
 use Rattle.tariff.specs.declared.blocks.Block.{Block}
 use Rattle.tally.specs.DayPrices.{in_block}
-use Rattle.tally.specs.Numbered.{total_z, greatest}
+use Rattle.tally.specs.Numbered.{total_z}
 use Rattle.tally.specs.Settlement.{block_total}
 use Rattle.tally.specs.States.{State}
-use Rattle.tally.proofs.Numbering.{total_z_more, greatest_more}
+use Rattle.tally.proofs.Numbering.{total_z_more}
 
 module _ (state : State) (block : Block) (f : ℕ → ℤ) where
   -- the figures of the block's hours
@@ -29,17 +29,7 @@ module _ (state : State) (block : Block) (f : ℕ → ℤ) where
       → place ≡ 24 → total ≡ total_z of_block place → total ≡ block_total state block f
   whole_block place total e h = h ∙ ap (total_z of_block) e
 
--- the same for the greatest
+-- the figures of the block's hours, for the greatest of them
 module _ (state : State) (block : Block) (f : ℕ → ℕ) where
   abbrev pub figures_of : ℕ → ℕ
   figures_of hour = cond (in_block state block hour) (f hour) 0
-
-  pub greatest_inside : (place : ℕ) (is_in : Bool) (most n : ℕ)
-      → is_in ≡ in_block state block (suc place) → is_in ≡ true → n ≡ f (suc place)
-      → most ≡ greatest figures_of place → max most n ≡ greatest figures_of (place + 1)
-  greatest_inside place is_in most n test is e h = rw (add-one, greatest_more, ← test, is, e, h)
-
-  pub greatest_outside : (place : ℕ) (is_in : Bool) (most : ℕ)
-      → is_in ≡ in_block state block (suc place) → is_in ≡ false
-      → most ≡ greatest figures_of place → most ≡ greatest figures_of (place + 1)
-  greatest_outside place is_in most test isnt h = rw (add-one, greatest_more, ← test, isnt, h) (omega arith)

@@ -45,3 +45,5 @@ pub mod ClosingTests
 pub mod ClosedBooks
 pub mod Entering
 pub mod Played
+pub mod HourLists
+pub mod Unallotted

@@ -2,9 +2,10 @@
 use Rattle.std.proofs.Common.{◌≡◌, ℕ, zero, suc, ◌+◌, ◌-◌, ◌<◌, ◌≤◌, Bool, true, false, cond, ltb, eqb, List, [], length, get_or, set, refl, sym, subst, ap, ap₂, ◌∙◌, ⊎_elim, add-one, below_more, arith}
 use Rattle.std.proofs.lemmas.Bool.{cases_lt}
 use Rattle.std.proofs.lemmas.Bool.Decides.{nat_tests}
-use Rattle.tariff.specs.Answers.{Answer, granted, ◌then◌, in_order}
+use Rattle.tariff.specs.Answers.{Answer, granted, ◌then◌, in_order, refused}
 use Rattle.tariff.specs.Division.{Division, LawfulRule, Moves, division_answer}
 use Rattle.tariff.specs.declared.blocks.Block.{Block}
+use Rattle.tariff.specs.declared.refusal.Refusal.{Refusal}
 use Rattle.tariff.specs.declared.blocks.Block.TheVariants.{Heavy, Light}
 use Rattle.tally.specs.DayPrices.{DayPrices}
 use Rattle.tally.specs.MakeWhole.{turn, make_whole_claims, make_whole_share, sharing_answer, sharings_answer}
@@ -170,6 +171,13 @@ pub both_tested : (state : State) (prices : DayPrices) (most limit : ℕ) (a : A
     → a ≡ sharings_answer state prices limit
 both_tested state prices most limit a e heavy light =
     light ∙ ap (λ b. b then in_order (sharing_answer state prices most Light) state.set_up.parties) heavy ∙ ap (sharings_answer state prices) e
+
+-- those of which one of the heavy block's refuses
+pub first_tested : (state : State) (prices : DayPrices) (most limit : ℕ) (refusal : Refusal) → most ≡ limit
+    → refused refusal ≡ in_order (sharing_answer state prices most Heavy) state.set_up.parties
+    → refused refusal ≡ sharings_answer state prices limit
+first_tested state prices most limit refusal e heavy =
+    ap (λ b. b then in_order (sharing_answer state prices most Light) state.set_up.parties) heavy ∙ ap (sharings_answer state prices) e
 
 -- where each division of a block would be granted, so is that of what the seller lacks
 pub sharing_granted : (state : State) (prices : DayPrices) (most limit : ℕ) → most ≡ limit → (block : Block) (amounts : ℕ → ℕ)

@@ -26,3 +26,4 @@ pub mod Closings
 pub mod MadeFrom
 pub mod Playing
 pub mod TwoCalls
+pub mod AllottedHours

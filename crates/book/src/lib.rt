@@ -3,9 +3,11 @@
 
 mod amounts;
 mod blank;
+mod block_hours;
 mod block_prices;
 pub mod book;
 pub mod call;
+mod cut_table;
 mod day;
 mod deployments;
 mod division;

@@ -41,6 +41,7 @@ impl Book {
 
     // Settles the open day by a source's prices, fills both pages of the statement, and posts every payment to both
     // balances.
+    #[inline(never)]
     pub fn close_day<S: PriceSource, R: DivisionRule>(
         &mut self,
         source: &S,

@@ -3,6 +3,7 @@ ghost use Rattle.std.specs.Prelude.{◌≡◌, ℕ, ◌<◌, ◌≤◌, suc, sli
 ghost use Rattle.tariff.specs.declared.blocks.Block.{Block};
 ghost use Rattle.tally.specs.States.{IsParty};
 ghost use Rattle.tally.specs.Years.{day_charges};
+ghost use Rattle.book.specs.AllottedHours.{Suffice};
 ghost use Rattle.book.specs.Books.{state_of};
 ghost use Rattle.book.specs.CutTables.{HasCuts, SmallEntries};
 ghost use Rattle.book.specs.Pages.{nothing};
@@ -12,14 +13,17 @@ ghost use Rattle.book.specs.Records.{at};
 ghost use Rattle.book.specs.Settled.{PaidIn, paid, paid_at};
 ghost use Rattle.book.specs.Sharing.{shares_in};
 
+use crate::block_hours::BlockHours;
 use crate::book::Book;
 use crate::book::settling::sharing::MakeWholeShares;
+use crate::cut_table::CutTable;
 use crate::payment::Payment;
 use crate::places::PartyPlace;
 use crate::priced_day::PricedDay;
-use crate::records::{ByHour, ByParty, PARTIES};
+use crate::records::{ByParty, PARTIES};
 use tariff::blocks::Block;
 
+mod allotted;
 mod blocks;
 mod charging;
 mod credits;
@@ -42,26 +46,28 @@ impl Book {
     fn payment(
         &self,
         prices: &PricedDay,
-        block: Block,
+        hours: &BlockHours,
         seller: PartyPlace,
         buyer: PartyPlace,
         share: u64,
-        cuts: &ByHour<ByParty<u64>>,
+        cuts: &CutTable,
     ) -> Payment
         requires kind { prices.now.kind ≡ self.now.day.kind }
+        requires hours { Suffice (state_of self.now) hours.now }
         requires buyer { buyer.place < self.now.pool.parties }
         requires share { share ≤ 960000000000 }
-        requires cuts { HasCuts (state_of self.now) (prices_in prices.now) (suc seller.place) cuts.now }
-        requires small { SmallEntries cuts.now }
+        requires cuts { HasCuts (state_of self.now) (prices_in prices.now) (suc seller.place) cuts.now.rows }
+        requires small { SmallEntries cuts.now.rows }
         ensures { payment_of result
-            ≡ paid (state_of self.now) (prices_in prices.now) block (suc seller.place) (suc buyer.place) share }
+            ≡ paid (state_of self.now) (prices_in prices.now) hours.now.block (suc seller.place)
+            (suc buyer.place) share }
     {
         Payment {
-            holdback: self.holdback(prices, block, seller, buyer),
-            energy: self.energy(prices, block, seller, buyer),
+            holdback: self.holdback(prices, hours, seller, buyer),
+            energy: self.energy(prices, hours, seller, buyer),
             make_whole: share as i64,
-            to_pool: self.to_pool(cuts, block, seller, buyer),
-            to_buyer: self.to_buyer(cuts, block, seller, buyer),
+            to_pool: self.to_pool(cuts, hours.block, seller, buyer),
+            to_buyer: self.to_buyer(cuts, hours.block, seller, buyer),
         }
     }
 
@@ -69,25 +75,26 @@ impl Book {
     fn payments(
         &self,
         prices: &PricedDay,
-        block: Block,
+        hours: &BlockHours,
         seller: PartyPlace,
         shares: &ByParty<u64>,
-        cuts: &ByHour<ByParty<u64>>,
+        cuts: &CutTable,
     ) -> ByParty<Payment>
         requires kind { prices.now.kind ≡ self.now.day.kind }
+        requires hours { Suffice (state_of self.now) hours.now }
         requires seller { seller.place < self.now.pool.parties }
         requires shares { (buyer : ℕ) → buyer < self.now.pool.parties → slice_index shares.now buyer ≤ 960000000000 }
-        requires cuts { HasCuts (state_of self.now) (prices_in prices.now) (suc seller.place) cuts.now }
-        requires small { SmallEntries cuts.now }
+        requires cuts { HasCuts (state_of self.now) (prices_in prices.now) (suc seller.place) cuts.now.rows }
+        requires small { SmallEntries cuts.now.rows }
         ensures { (buyer : ℕ) → buyer < 12 → payment_of (slice_index_or result buyer nothing)
-            ≡ paid_at (state_of self.now) (prices_in prices.now) block seller.place buyer
+            ≡ paid_at (state_of self.now) (prices_in prices.now) hours.now.block seller.place buyer
             (slice_index shares.now buyer) }
     {
         let mut row = [Payment::NONE; PARTIES];
         for place in 0..self.parties() {
             row[place] = self.payment(
                 prices,
-                block,
+                hours,
                 seller,
                 PartyPlace { place },
                 shares[place],
@@ -111,20 +118,32 @@ impl Book {
             → at 0 result.charges seller ≡ day_charges (state_of self.now) (prices_in prices.now) seller }
         ensures small { (seller : ℕ) → at 0 result.charges seller ≤ 144000000000000 }
     {
-        let mut heavy = [[Payment::NONE; PARTIES]; PARTIES];
-        let mut light = [[Payment::NONE; PARTIES]; PARTIES];
-        let mut charges = [0; PARTIES];
+        let mut settled = Settled {
+            heavy: [[Payment::NONE; PARTIES]; PARTIES],
+            light: [[Payment::NONE; PARTIES]; PARTIES],
+            charges: [0; PARTIES],
+        };
+        let heavy_hours = self.allotted_hours(Block::Heavy);
+        let light_hours = self.allotted_hours(Block::Light);
         for place in 0..self.parties() {
             let seller = PartyPlace { place };
             let cuts = self.cut_charges(prices, seller);
-            heavy[place] = self.payments(prices, Block::Heavy, seller, &shares.heavy[place], &cuts);
-            light[place] = self.payments(prices, Block::Light, seller, &shares.light[place], &cuts);
-            charges[place] = self.day_charges(&cuts);
+            settled.heavy[place] = self.payments(
+                prices,
+                &heavy_hours,
+                seller,
+                &shares.heavy[place],
+                &cuts,
+            );
+            settled.light[place] = self.payments(
+                prices,
+                &light_hours,
+                seller,
+                &shares.light[place],
+                &cuts,
+            );
+            settled.charges[place] = self.day_charges(&cuts);
         }
-        Settled {
-            heavy,
-            light,
-            charges,
-        }
+        settled
     }
 }

@@ -1,6 +1,6 @@
-// Sums over the hours of a block, and the greatest of their figures.
+// Sums over the hours of a block.
 ghost use Rattle.std.specs.Prelude.{◌≡◌, ℕ, ◌≤◌, suc, ℤ, unsigned_abs};
-ghost use Rattle.tally.specs.Settlement.{block_total, block_greatest};
+ghost use Rattle.tally.specs.Settlement.{block_total};
 ghost use Rattle.book.specs.Books.{state_of};
 ghost use Rattle.book.specs.declared.places.HourPlace.{HourPlace};
 
@@ -26,21 +26,5 @@ impl Book {
             }
         }
         total
-    }
-
-    // The greatest of a figure in the hours of a block.
-    pub(crate) fn block_greatest<F: Fn(HourPlace) -> u64>(&self, block: Block, figure: F) -> u64
-        requires { F.IsAlwaysCallable figure }
-        ensures { (f : ℕ → ℕ) → ((hour : HourPlace) (n : ℕ) → F.post figure hour n → n ≡ f (suc hour.place))
-            → result ≡ block_greatest (state_of self.now) block f }
-    {
-        let mut greatest = 0;
-        for place in 0..HOURS {
-            let hour = HourPlace { place };
-            if self.in_block(block, hour) {
-                greatest = greatest.max(figure(hour));
-            }
-        }
-        greatest
     }
 }

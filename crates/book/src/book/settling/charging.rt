@@ -11,9 +11,10 @@ ghost use Rattle.book.specs.PricedDays.{prices_in};
 ghost use Rattle.book.specs.Records.{at};
 
 use crate::book::Book;
+use crate::cut_table::CutTable;
 use crate::places::{HourPlace, PartyPlace};
 use crate::priced_day::PricedDay;
-use crate::records::{ByHour, ByParty, HOURS, PARTIES};
+use crate::records::{ByParty, HOURS, PARTIES};
 
 impl Book {
     // The day-ahead price in an hour.
@@ -89,20 +90,23 @@ impl Book {
     }
 
     // A seller's charges of the day, each cut to what the ceiling still allows by hour, then buyer.
-    pub(crate) fn cut_charges(&self, prices: &PricedDay, seller: PartyPlace) -> ByHour<ByParty<u64>>
-        ensures cuts { HasCuts (state_of self.now) (prices_in prices.now) (suc seller.place) result }
-        ensures others { (hour buyer : ℕ) → self.now.pool.parties < buyer → entry_in result hour buyer ≡ 0 }
-        ensures small { SmallEntries result }
+    pub(crate) fn cut_charges(&self, prices: &PricedDay, seller: PartyPlace) -> CutTable
+        ensures cuts { HasCuts (state_of self.now) (prices_in prices.now) (suc seller.place) result.rows }
+        ensures others { (hour buyer : ℕ) → self.now.pool.parties < buyer → entry_in result.rows hour buyer ≡ 0 }
+        ensures small { SmallEntries result.rows }
     {
-        let mut cuts = [[0; PARTIES]; HOURS];
         // Most sellers miss nothing in a day.
         if !self.is_failure_day(seller) {
-            return cuts;
+            return CutTable {
+                rows: [[0; PARTIES]; HOURS],
+                is_empty: true,
+            };
         }
+        let mut rows = [[0; PARTIES]; HOURS];
         let failure_day = self.failure_days(seller);
         let mut left = self.allowance(seller);
         for hour in 0..HOURS {
-            cuts[hour] = self.cut_hour(
+            rows[hour] = self.cut_hour(
                 prices,
                 failure_day,
                 seller,
@@ -110,6 +114,9 @@ impl Book {
                 &mut left,
             );
         }
-        cuts
+        CutTable {
+            rows,
+            is_empty: false,
+        }
     }
 }

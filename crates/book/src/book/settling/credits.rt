@@ -1,31 +1,38 @@
 // A seller's block sale revenue, and what is credited against it.
 ghost use Rattle.std.specs.Prelude.{◌≡◌, ◌≤◌, suc, unsigned_abs};
 ghost use Rattle.tally.specs.Settlement.{largest_holding, revenue, declined_at, declined_credit, idle_credit, credits};
+ghost use Rattle.book.specs.AllottedHours.{Suffice};
 ghost use Rattle.book.specs.Books.{state_of};
 ghost use Rattle.book.specs.PricedDays.{prices_in};
 
 use crate::amounts::at_price;
+use crate::block_hours::BlockHours;
 use crate::book::Book;
 use crate::places::{HourPlace, PartyPlace};
 use crate::priced_day::PricedDay;
-use tariff::blocks::Block;
 
 impl Book {
     // The largest hourly holding.
-    pub(crate) fn largest_holding(&self, block: Block, seller: PartyPlace) -> u64
-        ensures value { result ≡ largest_holding (state_of self.now) block (suc seller.place) }
+    pub(crate) fn largest_holding(&self, hours: &BlockHours, seller: PartyPlace) -> u64
+        requires { Suffice (state_of self.now) hours.now }
+        ensures value { result ≡ largest_holding (state_of self.now) hours.now.block (suc seller.place) }
         ensures size { result ≤ 10000 }
     {
-        self.block_greatest(block, |hour| self.held(hour, seller))
+        hours.greatest(|hour| self.held(hour, seller))
     }
 
     // That holding at the day-ahead price in every hour of the block.
-    pub(crate) fn revenue(&self, prices: &PricedDay, block: Block, seller: PartyPlace) -> i64
-        ensures value { result ≡ revenue (state_of self.now) (prices_in prices.now) block (suc seller.place) }
+    pub(crate) fn revenue(&self, prices: &PricedDay, hours: &BlockHours, seller: PartyPlace) -> i64
+        requires { Suffice (state_of self.now) hours.now }
+        ensures value { result ≡ revenue (state_of self.now) (prices_in prices.now) hours.now.block (suc seller.place) }
         ensures size { unsigned_abs result ≤ 12000000000000 }
     {
-        let amount = at_price(self.largest_holding(block, seller), prices.day_ahead(block));
-        self.block_total(block, |_| amount)
+        let holding = self.largest_holding(hours, seller);
+        if holding == 0 {
+            return 0;
+        }
+        let amount = at_price(holding, prices.day_ahead(hours.block));
+        self.block_total(hours.block, |_| amount)
     }
 
     // MWh that a seller's buyers decline in an hour.
@@ -44,14 +51,16 @@ impl Book {
     pub(crate) fn declined_credit(
         &self,
         prices: &PricedDay,
-        block: Block,
+        hours: &BlockHours,
         seller: PartyPlace,
     ) -> i64
-        requires { prices.now.kind ≡ self.now.day.kind }
-        ensures value { result ≡ declined_credit (state_of self.now) (prices_in prices.now) block (suc seller.place) }
+        requires kind { prices.now.kind ≡ self.now.day.kind }
+        requires hours { Suffice (state_of self.now) hours.now }
+        ensures value { result
+            ≡ declined_credit (state_of self.now) (prices_in prices.now) hours.now.block (suc seller.place) }
         ensures size { unsigned_abs result ≤ 12000000000000 }
     {
-        self.block_total(block, |hour| {
+        hours.total(|hour| {
             if self.held(hour, seller) > 0 {
                 at_price(
                     self.declined_at(seller, hour),
@@ -64,12 +73,22 @@ impl Book {
     }
 
     // The largest holding at the real-time price, in hours where it holds nothing.
-    pub(crate) fn idle_credit(&self, prices: &PricedDay, block: Block, seller: PartyPlace) -> i64
-        ensures value { result ≡ idle_credit (state_of self.now) (prices_in prices.now) block (suc seller.place) }
+    pub(crate) fn idle_credit(
+        &self,
+        prices: &PricedDay,
+        hours: &BlockHours,
+        seller: PartyPlace,
+    ) -> i64
+        requires { Suffice (state_of self.now) hours.now }
+        ensures value { result
+            ≡ idle_credit (state_of self.now) (prices_in prices.now) hours.now.block (suc seller.place) }
         ensures size { unsigned_abs result ≤ 12000000000000 }
     {
-        let largest = self.largest_holding(block, seller);
-        self.block_total(block, |hour| {
+        let largest = self.largest_holding(hours, seller);
+        if largest == 0 {
+            return 0;
+        }
+        self.block_total(hours.block, |hour| {
             if self.held(hour, seller) > 0 {
                 0
             } else {
@@ -79,11 +98,12 @@ impl Book {
     }
 
     // Both credits.
-    pub(crate) fn credits(&self, prices: &PricedDay, block: Block, seller: PartyPlace) -> i64
-        requires { prices.now.kind ≡ self.now.day.kind }
-        ensures value { result ≡ credits (state_of self.now) (prices_in prices.now) block (suc seller.place) }
+    pub(crate) fn credits(&self, prices: &PricedDay, hours: &BlockHours, seller: PartyPlace) -> i64
+        requires kind { prices.now.kind ≡ self.now.day.kind }
+        requires hours { Suffice (state_of self.now) hours.now }
+        ensures value { result ≡ credits (state_of self.now) (prices_in prices.now) hours.now.block (suc seller.place) }
         ensures size { unsigned_abs result ≤ 24000000000000 }
     {
-        self.declined_credit(prices, block, seller) + self.idle_credit(prices, block, seller)
+        self.declined_credit(prices, hours, seller) + self.idle_credit(prices, hours, seller)
     }
 }

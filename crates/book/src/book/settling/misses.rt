@@ -31,10 +31,12 @@ impl Book {
         ensures size { result ≤ 10000 }
     {
         let mut largest = 0;
-        for hour in 0..HOURS {
-            largest = self
-                .missed_at(seller, HourPlace { place: hour })
-                .max(largest);
+        for place in 0..HOURS {
+            let hour = HourPlace { place };
+            // Until an hour is allotted nothing of it is missed.
+            if self.is_allotted(hour) {
+                largest = self.missed_at(seller, hour).max(largest);
+            }
         }
         largest
     }

@@ -11,8 +11,9 @@ ghost use Rattle.book.specs.CutTables.{entry_in, HasCuts, SmallEntries, payee_pa
 ghost use Rattle.book.specs.Records.{at};
 
 use crate::book::Book;
+use crate::cut_table::CutTable;
 use crate::places::{HourPlace, PartyPlace};
-use crate::records::{ByHour, ByParty, HOURS};
+use crate::records::HOURS;
 use crate::sums::total;
 use crate::tables::get_in_row;
 use tariff::blocks::Block;
@@ -22,23 +23,23 @@ impl Book {
     // What goes in an hour to the payee of misses that are so covered.
     fn part_at(
         &self,
-        cuts: &ByHour<ByParty<u64>>,
+        cuts: &CutTable,
         block: Block,
         cover: Cover,
         seller: PartyPlace,
         hour: HourPlace,
         buyer: PartyPlace,
     ) -> u64
-        requires { SmallEntries cuts.now }
+        requires { SmallEntries cuts.now.rows }
         ensures value { let state = state_of self.now in let number = suc hour.place in
             let covered = (hour_at state number).cover (suc seller.place) (suc buyer.place) in
             pos result ≡ (if in_block state block number
-            then pos (payee_part cover covered (entry_in cuts.now number (suc buyer.place)))
+            then pos (payee_part cover covered (entry_in cuts.now.rows number (suc buyer.place)))
             else pos 0) }
         ensures size { result ≤ 500000000000 }
     {
         if self.in_block(block, hour) && self.cover(hour, seller, buyer) == cover {
-            get_in_row(&cuts[hour.place], buyer)
+            get_in_row(&cuts.rows[hour.place], buyer)
         } else {
             0
         }
@@ -47,18 +48,22 @@ impl Book {
     // What goes in a block to the payee of misses that are so covered.
     fn of_payee(
         &self,
-        cuts: &ByHour<ByParty<u64>>,
+        cuts: &CutTable,
         block: Block,
         cover: Cover,
         seller: PartyPlace,
         buyer: PartyPlace,
     ) -> i64
-        requires { SmallEntries cuts.now }
+        requires { SmallEntries cuts.now.rows }
         ensures value { let state = state_of self.now in let number = suc buyer.place in
             result ≡ block_total state block (λ hour. pos
-            (payee_part cover ((hour_at state hour).cover (suc seller.place) number) (entry_in cuts.now hour number))) }
+            (payee_part cover ((hour_at state hour).cover (suc seller.place) number)
+            (entry_in cuts.now.rows hour number))) }
         ensures size { unsigned_abs result ≤ 12000000000000 }
     {
+        if cuts.is_empty {
+            return 0;
+        }
         let mut all = 0;
         for hour in 0..HOURS {
             all += self.part_at(cuts, block, cover, seller, HourPlace { place: hour }, buyer);
@@ -69,15 +74,15 @@ impl Book {
     // What a seller pays to the pool for a buyer in a block, by a table of its charges.
     pub(crate) fn to_pool(
         &self,
-        cuts: &ByHour<ByParty<u64>>,
+        cuts: &CutTable,
         block: Block,
         seller: PartyPlace,
         buyer: PartyPlace,
     ) -> i64
-        requires small { SmallEntries cuts.now }
+        requires small { SmallEntries cuts.now.rows }
         requires party { buyer.place < self.now.pool.parties }
         ensures value { let state = state_of self.now in
-            (prices : DayPrices) → HasCuts state prices (suc seller.place) cuts.now
+            (prices : DayPrices) → HasCuts state prices (suc seller.place) cuts.now.rows
             → result ≡ block_total state block (λ hour.
             pos (pool_charge state prices (suc seller.place) hour (suc buyer.place))) }
         ensures size { unsigned_abs result ≤ 12000000000000 }
@@ -88,15 +93,15 @@ impl Book {
     // What it pays to the buyer.
     pub(crate) fn to_buyer(
         &self,
-        cuts: &ByHour<ByParty<u64>>,
+        cuts: &CutTable,
         block: Block,
         seller: PartyPlace,
         buyer: PartyPlace,
     ) -> i64
-        requires small { SmallEntries cuts.now }
+        requires small { SmallEntries cuts.now.rows }
         requires party { buyer.place < self.now.pool.parties }
         ensures value { let state = state_of self.now in
-            (prices : DayPrices) → HasCuts state prices (suc seller.place) cuts.now
+            (prices : DayPrices) → HasCuts state prices (suc seller.place) cuts.now.rows
             → result ≡ block_total state block (λ hour.
             pos (buyer_charge state prices (suc seller.place) hour (suc buyer.place))) }
         ensures size { unsigned_abs result ≤ 12000000000000 }
@@ -105,15 +110,18 @@ impl Book {
     }
 
     // What a seller is charged in the day, by a table of its charges.
-    pub(crate) fn day_charges(&self, cuts: &ByHour<ByParty<u64>>) -> u64
-        requires { SmallEntries cuts.now }
-        ensures value { (prices : DayPrices) (seller : ℕ) → HasCuts (state_of self.now) prices seller cuts.now
+    pub(crate) fn day_charges(&self, cuts: &CutTable) -> u64
+        requires { SmallEntries cuts.now.rows }
+        ensures value { (prices : DayPrices) (seller : ℕ) → HasCuts (state_of self.now) prices seller cuts.now.rows
             → result ≡ day_charges (state_of self.now) prices seller }
         ensures size { result ≤ 144000000000000 }
     {
+        if cuts.is_empty {
+            return 0;
+        }
         let mut all = 0;
         for hour in 0..HOURS {
-            all += total(&cuts[hour], self.parties());
+            all += total(&cuts.rows[hour], self.parties());
         }
         all
     }

@@ -5,10 +5,12 @@ ghost use Rattle.tariff.specs.Division.{above_zero, division_answer};
 ghost use Rattle.tally.specs.MakeWhole.{make_whole_claims, sharing_answer, sharings_answer};
 ghost use Rattle.tally.specs.Settlement.{make_whole};
 ghost use Rattle.tally.specs.Turns.{Turned};
+ghost use Rattle.book.specs.AllottedHours.{Suffice};
 ghost use Rattle.book.specs.Books.{state_of};
 ghost use Rattle.book.specs.PricedDays.{prices_in};
 ghost use Rattle.book.specs.Sharing.{Divisions, Shared, share_of};
 
+use crate::block_hours::BlockHours;
 use crate::book::Book;
 use crate::places::PartyPlace;
 use crate::priced_day::PricedDay;
@@ -38,19 +40,20 @@ impl Book {
         &self,
         prices: &PricedDay,
         most: u64,
-        block: Block,
+        hours: &BlockHours,
         seller: PartyPlace,
     ) -> Result<u64, Refusal>
         requires kind { prices.now.kind ≡ self.now.day.kind }
+        requires hours { Suffice (state_of self.now) hours.now }
         requires party { seller.place < self.now.pool.parties }
         ensures answer { told result
-            ≡ sharing_answer (state_of self.now) (prices_in prices.now) most block (suc seller.place) }
+            ≡ sharing_answer (state_of self.now) (prices_in prices.now) most hours.now.block (suc seller.place) }
         ensures value { IfOk result (λ amount. amount
-            ≡ make_whole (state_of self.now) (prices_in prices.now) block (suc seller.place)) }
+            ≡ make_whole (state_of self.now) (prices_in prices.now) hours.now.block (suc seller.place)) }
     {
-        let amount = self.make_whole(prices, block, seller);
+        let amount = self.make_whole(prices, hours, seller);
         if amount > 0 {
-            let claims = self.claims(block, seller);
+            let claims = self.claims(hours, seller);
             let count = above_zero(&claims[..self.parties()]);
             if count > most {
                 return Err(Refusal::TooManyClaims { count, limit: most });
@@ -64,17 +67,20 @@ impl Book {
         &self,
         prices: &PricedDay,
         most: u64,
-        block: Block,
+        hours: &BlockHours,
     ) -> Result<ByParty<u64>, Refusal>
-        requires { prices.now.kind ≡ self.now.day.kind }
+        requires kind { prices.now.kind ≡ self.now.day.kind }
+        requires hours { Suffice (state_of self.now) hours.now }
         ensures answer { told result
-            ≡ in_order (sharing_answer (state_of self.now) (prices_in prices.now) most block) self.now.pool.parties }
+            ≡ in_order (sharing_answer (state_of self.now) (prices_in prices.now) most hours.now.block)
+            self.now.pool.parties }
         ensures value { IfOk result (λ amounts. (seller : ℕ) → seller < self.now.pool.parties
-            → slice_index amounts seller ≡ make_whole (state_of self.now) (prices_in prices.now) block (suc seller)) }
+            → slice_index amounts seller
+            ≡ make_whole (state_of self.now) (prices_in prices.now) hours.now.block (suc seller)) }
     {
         let mut amounts = [0; PARTIES];
         for place in 0..self.parties() {
-            amounts[place] = self.lacking_of(prices, most, block, PartyPlace { place })?;
+            amounts[place] = self.lacking_of(prices, most, hours, PartyPlace { place })?;
         }
         Ok(amounts)
     }
@@ -83,21 +89,23 @@ impl Book {
     fn share_of<R: DivisionRule>(
         &self,
         amount: u64,
-        block: Block,
+        hours: &BlockHours,
         seller: PartyPlace,
         rule: &mut R,
     ) -> ByParty<u64>
-        requires { 0 < amount → division_answer R.LIMIT amount
-            (make_whole_claims (state_of self.now) block (suc seller.place)) self.now.pool.parties ≡ granted }
-        ensures turned { Turned R.moves amount (make_whole_claims (state_of self.now) block (suc seller.place))
+        requires hours { Suffice (state_of self.now) hours.now }
+        requires taken { 0 < amount → division_answer R.LIMIT amount
+            (make_whole_claims (state_of self.now) hours.now.block (suc seller.place)) self.now.pool.parties ≡ granted }
+        ensures turned { Turned R.moves amount
+            (make_whole_claims (state_of self.now) hours.now.block (suc seller.place))
             (R.meaning rule.old) (R.meaning rule.new) }
         ensures shares { (buyer : ℕ) → buyer < self.now.pool.parties → slice_index result buyer
             ≡ share_of amount (R.meaning rule.old)
-            (make_whole_claims (state_of self.now) block (suc seller.place)) buyer }
+            (make_whole_claims (state_of self.now) hours.now.block (suc seller.place)) buyer }
     {
         let mut shares = [0; PARTIES];
         if amount > 0 {
-            let claims = self.claims(block, seller);
+            let claims = self.claims(hours, seller);
             let parties = self.parties();
             let Ok(()) = rule.divide(amount, &claims[..parties], &mut shares[..parties]) else {
                 unreachable!()
@@ -110,19 +118,20 @@ impl Book {
     fn share<R: DivisionRule>(
         &self,
         amounts: &ByParty<u64>,
-        block: Block,
+        hours: &BlockHours,
         rule: &mut R,
     ) -> ByParty<ByParty<u64>>
-        requires { (seller : ℕ) → seller < self.now.pool.parties → 0 < slice_index amounts.now seller
+        requires hours { Suffice (state_of self.now) hours.now }
+        requires taken { (seller : ℕ) → seller < self.now.pool.parties → 0 < slice_index amounts.now seller
             → division_answer R.LIMIT (slice_index amounts.now seller)
-            (make_whole_claims (state_of self.now) block (suc seller)) self.now.pool.parties ≡ granted }
+            (make_whole_claims (state_of self.now) hours.now.block (suc seller)) self.now.pool.parties ≡ granted }
         ensures { Divisions R.LIMIT R.moves (λ seller. slice_index amounts.now seller)
-            (λ seller. make_whole_claims (state_of self.now) block (suc seller)) self.now.pool.parties
+            (λ seller. make_whole_claims (state_of self.now) hours.now.block (suc seller)) self.now.pool.parties
             self.now.pool.parties (R.meaning rule.old) result (R.meaning rule.new) }
     {
         let mut rows = [[0; PARTIES]; PARTIES];
         for place in 0..self.parties() {
-            rows[place] = self.share_of(amounts[place], block, PartyPlace { place }, rule);
+            rows[place] = self.share_of(amounts[place], hours, PartyPlace { place }, rule);
         }
         rows
     }
@@ -141,10 +150,12 @@ impl Book {
         ensures same { told result ≢ granted → rule.new ≡ rule.old }
     {
         let most = R::most_claims();
-        let heavy = self.lacking(prices, most, Block::Heavy)?;
-        let light = self.lacking(prices, most, Block::Light)?;
-        let heavy = self.share(&heavy, Block::Heavy, rule);
-        let light = self.share(&light, Block::Light, rule);
+        let heavy_hours = self.allotted_hours(Block::Heavy);
+        let light_hours = self.allotted_hours(Block::Light);
+        let heavy = self.lacking(prices, most, &heavy_hours)?;
+        let light = self.lacking(prices, most, &light_hours)?;
+        let heavy = self.share(&heavy, &heavy_hours, rule);
+        let light = self.share(&light, &light_hours, rule);
         Ok(MakeWholeShares { heavy, light })
     }
 }

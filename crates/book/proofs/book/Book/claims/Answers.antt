@@ -8,7 +8,7 @@ use Rattle.book.proofs.book.Book.claims.Goals as goal
 pub loop-place-preserved : goal.loop-place-preserved
 loop-place-preserved c =
     let a = c.args in
-    let claim : ℕ → ℕ = λ k. largest_pair (state_of a.self.now) a.block (suc a.seller.place) (suc k) in
+    let claim : ℕ → ℕ = λ k. largest_pair (state_of a.self.now) a.hours.now.block (suc a.seller.place) (suc k) in
     record {
       places = simp length-set c.loop-place.invariant.places;
       figures = rw c.largest_pair.ensures.value
@@ -18,6 +18,6 @@ loop-place-preserved c =
 pub returns : goal.returns
 returns c =
     let a = c.args in
-    let claim : ℕ → ℕ = largest_pair (state_of a.self.now) a.block (suc a.seller.place) in
+    let claim : ℕ → ℕ = largest_pair (state_of a.self.now) a.hours.now.block (suc a.seller.place) in
     listed_front claim c.loop-place.claims a.self.now.pool.parties (omega arith)
     (λ k h. c.loop-place.invariant.figures k (omega arith))

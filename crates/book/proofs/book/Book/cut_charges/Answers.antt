@@ -35,7 +35,7 @@ loop-hour-preserved c =
     let state = state_of c.args.self.now in
     let prices = prices_in c.args.prices.now in
     let seller = suc c.args.seller.place in
-    let cuts = c.loop-hour.cuts in
+    let cuts = c.loop-hour.rows in
     let hour = c.loop-hour.hour in
     let l : hour < length cuts = omega arith in
     record {
@@ -51,3 +51,6 @@ loop-hour-preserved c =
           c.cut_hour.ensures.small c.loop-hour.invariant.small;
       length = length-set _ _ _ ∙ c.loop-hour.invariant.length;
     }
+
+pub invariant_of-result : goal.invariant_of-result
+invariant_of-result c = record { empty = λ is. zero_rows_none }

@@ -10,8 +10,8 @@ abbrev pub invariant-loop-hour : goal.invariant-loop-hour
 invariant-loop-hour l = record {
   room : l.left ≡ left_after (state_of l.self) (prices_in l.prices) (suc l.seller.place) l.hour;
   cuts : (hour : ℕ) → 0 < hour → hour ≤ l.hour → (buyer : ℕ) → IsParty (state_of l.self) buyer
-      → entry_in l.cuts hour buyer ≡ cut_charge (state_of l.self) (prices_in l.prices) (suc l.seller.place) hour buyer;
-  others : (hour buyer : ℕ) → l.self.pool.parties < buyer → entry_in l.cuts hour buyer ≡ 0;
-  small : SmallEntries l.cuts;
-  length : length l.cuts ≡ 24;
+      → entry_in l.rows hour buyer ≡ cut_charge (state_of l.self) (prices_in l.prices) (suc l.seller.place) hour buyer;
+  others : (hour buyer : ℕ) → l.self.pool.parties < buyer → entry_in l.rows hour buyer ≡ 0;
+  small : SmallEntries l.rows;
+  length : length l.rows ≡ 24;
 }

@@ -2,7 +2,7 @@ use Rattle.std.proofs.Common.{◌≡◌, suc, sym, ◌∙◌, rules, arith}
 use Rattle.tally.proofs.Numbering.{total_none}
 use Rattle.book.specs.Books.{state_of}
 use Rattle.book.proofs.Steps.{total_step}
-use Rattle.book.proofs.Payees.{day_same}
+use Rattle.book.proofs.Payees.{day_none, day_same}
 use Rattle.book.proofs.book.Book.day_charges.Goals as goal
 
 pub loop-hour-init : goal.loop-hour-init
@@ -26,4 +26,9 @@ loop-hour-preserved c = record {
 pub returns-clause-value : goal.returns-clause-value
 returns-clause-value c = λ prices seller has.
     let e : c.loop-hour.hour ≡ 24 = omega arith in
-    rw e at c.loop-hour.invariant.sum ∙ day_same (state_of c.args.self.now) prices seller c.args.cuts.now has
+    rw e at c.loop-hour.invariant.sum ∙ day_same (state_of c.args.self.now) prices seller c.args.cuts.now.rows has
+
+pub returns-then-cuts-clause-value : goal.returns-then-cuts-clause-value
+returns-then-cuts-clause-value c = λ prices seller has.
+    day_none (state_of c.args.self.now) c.args.cuts.now.rows (c.args.cuts.now.empty c.if-cuts.true)
+    ∙ day_same (state_of c.args.self.now) prices seller c.args.cuts.now.rows has

@@ -1,9 +1,10 @@
-use Rattle.std.proofs.Common.{suc, cond, pos, ◌*ℤ◌, rules, arith}
+use Rattle.std.proofs.Common.{ℕ, ℤ, suc, cond, pos, ◌*ℤ◌, rules, arith}
 use Rattle.std.proofs.lemmas.Int.{ints}
 use Rattle.tally.specs.DayPrices.{prices_of}
 use Rattle.tally.specs.Settlement.{declined_credit, declined_at, holds_at}
 use Rattle.book.specs.Books.{state_of}
 use Rattle.book.specs.PricedDays.{prices_in}
+use Rattle.book.proofs.Unallotted.{uncredited}
 use Rattle.book.proofs.book.Book.declined_credit.Goals as goal
 
 pub returns-clause-value : goal.returns-clause-value
@@ -13,7 +14,8 @@ returns-clause-value c =
     let S = state_of a.self.now in
     let P = prices_in a.prices.now in
     let seller = suc a.seller.place in
-    let e = c.block_total.ensures.value
-    (λ hour. cond (holds_at S seller hour) (pos (declined_at S seller hour) *ℤ (prices_of S P hour).energy) (pos 0))
-    (λ hour n post. search rules) in
-    omega (arith, ints, e)
+    let figure : ℕ → ℤ =
+    λ hour. cond (holds_at S seller hour) (pos (declined_at S seller hour) *ℤ (prices_of S P hour).energy) (pos 0) in
+    let e = c.total.ensures.value figure (λ hour n post. search rules) in
+    let all = c.requires.hours.sums figure (λ hour isnt. uncredited a.self.now hour isnt seller _) in
+    omega (arith, ints, e, all)

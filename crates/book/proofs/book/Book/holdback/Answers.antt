@@ -1,4 +1,4 @@
-use Rattle.std.proofs.Common.{◌≤◌, rules, suc, ℤ, pos, ◌*ℤ◌, nat_abs, subst, sym, arith}
+use Rattle.std.proofs.Common.{ℕ, ◌≤◌, rules, suc, ℤ, pos, ◌*ℤ◌, nat_abs, subst, sym, arith}
 use Rattle.std.proofs.lemmas.Int.{ints}
 use Rattle.tally.specs.DayPrices.{DayPrices, prices_of}
 use Rattle.tally.specs.Pairs.{pair}
@@ -9,6 +9,7 @@ use Rattle.book.specs.Books.{state_of}
 use Rattle.book.specs.PricedDays.{prices_in}
 use Rattle.book.proofs.DayPriced.{small_prices}
 use Rattle.book.proofs.Facts.{sound_of}
+use Rattle.book.proofs.Unallotted.{nothing_costs, unheld_pair}
 use Rattle.book.proofs.book.Book.holdback.Goals as goal
 
 pub returns-clause-value : goal.returns-clause-value
@@ -19,10 +20,10 @@ returns-clause-value c =
     let buyer = suc a.buyer.place in
     let S : State = state_of a.self.now in
     let P : DayPrices = prices_in a.prices.now in
-    let e = c.block_total.ensures.value
-    (λ hour. pos (pair (hour_at S hour) seller buyer) *ℤ (prices_of S P hour).holdback)
-    (λ hour n post. search rules) in
-    omega (arith, ints, e)
+    let figure : ℕ → ℤ = λ hour. pos (pair (hour_at S hour) seller buyer) *ℤ (prices_of S P hour).holdback in
+    let e = c.total.ensures.value figure (λ hour n post. search rules) in
+    let all = c.requires.hours.sums figure (λ hour isnt. nothing_costs _ _ (unheld_pair a.self.now hour isnt seller buyer)) in
+    omega (arith, ints, e, all)
 
 pub returns-clause-size : goal.returns-clause-size
 returns-clause-size c =
@@ -32,4 +33,4 @@ returns-clause-size c =
     let Small : ℤ → Type 0 = λ n. nat_abs n ≤ 288000000000 in
     subst Small (sym (returns-clause-value c))
     (holdback_size (state_of a.self.now) (sound_of a.self.now) (prices_in a.prices.now) (small_prices a.prices.now)
-    a.block (suc a.seller.place) (suc a.buyer.place))
+    a.hours.now.block (suc a.seller.place) (suc a.buyer.place))

@@ -5,10 +5,10 @@ use Rattle.book.proofs.book.Book.lacking_of.Goals as goal
 
 pub returns-then-count-most-clause-answer : goal.returns-then-count-most-clause-answer
 returns-then-count-most-clause-answer c =
-    let s = sharing_counted c.args.self.now c.args.prices.now c.args.block c.args.seller.place c.requires.party c.args.most in
+    let s = sharing_counted c.args.self.now c.args.prices.now c.args.hours.now.block c.args.seller.place c.requires.party c.args.most in
     grind (arith, nat_tests)
 
 pub returns-else-count-most-clause-answer : goal.returns-else-count-most-clause-answer
 returns-else-count-most-clause-answer c =
-    let s = sharing_counted c.args.self.now c.args.prices.now c.args.block c.args.seller.place c.requires.party c.args.most in
+    let s = sharing_counted c.args.self.now c.args.prices.now c.args.hours.now.block c.args.seller.place c.requires.party c.args.most in
     grind (arith, nat_tests)

@@ -4,8 +4,8 @@ use Rattle.tally.specs.Numbered.{greatest}
 use Rattle.book.specs.Books.{state_of}
 use Rattle.book.proofs.book.Book.largest_miss.Given as goal
 
-abbrev pub invariant-loop-hour : goal.invariant-loop-hour
-invariant-loop-hour l = record {
-  most : l.largest ≡ greatest (missed_at (state_of l.self) (suc l.seller.place)) l.hour;
+abbrev pub invariant-loop-place : goal.invariant-loop-place
+invariant-loop-place l = record {
+  most : l.largest ≡ greatest (missed_at (state_of l.self) (suc l.seller.place)) l.place;
   small : l.largest ≤ 10000;
 }

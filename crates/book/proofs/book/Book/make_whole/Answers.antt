@@ -15,7 +15,7 @@ returns-clause-value c =
     let S = state_of a.self.now in
     let P = prices_in a.prices.now in
     let seller = suc a.seller.place in
-    let lacking = revenue S P a.block seller -ℤ settlement S P a.block seller -ℤ credits S P a.block seller in
+    let lacking = revenue S P a.hours.now.block seller -ℤ settlement S P a.hours.now.block seller -ℤ credits S P a.hours.now.block seller in
     omega (arith, ints, clamps, size_above_zero lacking)
 
 pub returns-clause-size : goal.returns-clause-size
@@ -23,5 +23,5 @@ returns-clause-size c =
     let a = c.args in
     let Small : ℕ → Type 0 = λ n. n ≤ 960000000000 in
     subst Small (sym (returns-clause-value c))
-    (make_whole_size (state_of a.self.now) (sound_of a.self.now) a.block (suc a.seller.place)
+    (make_whole_size (state_of a.self.now) (sound_of a.self.now) a.hours.now.block (suc a.seller.place)
     (prices_in a.prices.now) (small_prices a.prices.now))

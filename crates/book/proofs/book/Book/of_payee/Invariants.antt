@@ -10,7 +10,7 @@ abbrev pub invariant-loop-hour : goal.invariant-loop-hour
 invariant-loop-hour l = record {
   sum : pos l.all ≡ total_z (λ hour. cond (in_block (state_of l.self) l.block hour)
       (pos (payee_part l.cover ((hour_at (state_of l.self) hour).cover (suc l.seller.place) (suc l.buyer.place))
-      (entry_in l.cuts hour (suc l.buyer.place))))
+      (entry_in l.cuts.rows hour (suc l.buyer.place))))
       (pos 0)) l.hour;
   small : l.all ≤ l.hour * 500000000000;
 }

@@ -10,10 +10,10 @@ use Rattle.book.proofs.Settling.{rows_none, rows_more, rows_all}
 use Rattle.book.proofs.book.Book.settle.Goals as goal
 
 pub returns-clause-heavy : goal.returns-clause-heavy
-returns-clause-heavy c = rows_all _ _ _ _ c.loop-place.place c.loop-place.heavy c.loop-place.invariant.heavy (omega arith)
+returns-clause-heavy c = rows_all _ _ _ _ c.loop-place.place c.loop-place.settled.heavy c.loop-place.invariant.heavy (omega arith)
 
 pub returns-clause-light : goal.returns-clause-light
-returns-clause-light c = rows_all _ _ _ _ c.loop-place.place c.loop-place.light c.loop-place.invariant.light (omega arith)
+returns-clause-light c = rows_all _ _ _ _ c.loop-place.place c.loop-place.settled.light c.loop-place.invariant.light (omega arith)
 
 pub loop-place-init : goal.loop-place-init
 loop-place-init c = record {
@@ -35,13 +35,15 @@ loop-place-preserved c =
     let old = c.loop-place in
     let cuts = c.cut_charges-cuts.ensures.cuts in
     let day = c.day_charges.ensures.value (prices_in c.args.prices.now) (suc old.place) cuts in
-    let l : old.place < length old.charges = omega (arith, old.invariant.long) in
+    let l : old.place < length old.settled.charges = omega (arith, old.invariant.long) in
     record {
-      heavy = rows_more _ _ _ _ old.place old.heavy old.invariant.heavy _ (omega arith) c.payments.ensures;
-      light = rows_more _ _ _ _ old.place old.light old.invariant.light _ (omega arith) c.payments-in-loop-place.ensures;
+      heavy = rows_more _ _ _ _ old.place old.settled.heavy old.invariant.heavy _ (omega arith)
+          (rw c.allotted_hours-heavy_hours.ensures.block at c.payments.ensures);
+      light = rows_more _ _ _ _ old.place old.settled.light old.invariant.light _ (omega arith)
+          (rw c.allotted_hours-light_hours.ensures.block at c.payments-in-loop-place.ensures);
       charges =
-          row_next 0 old.charges old.place c.day_charges.result
+          row_next 0 old.settled.charges old.place c.day_charges.result
           (λ seller x. x ≡ day_charges (state_of c.args.self.now) (prices_in c.args.prices.now) seller) l day old.invariant.charges;
-      small = row_all 0 old.charges old.place c.day_charges.result (λ x. x ≤ 144000000000000) l c.day_charges.ensures.size old.invariant.small;
-      long = length-set old.charges old.place c.day_charges.result ∙ old.invariant.long;
+      small = row_all 0 old.settled.charges old.place c.day_charges.result (λ x. x ≤ 144000000000000) l c.day_charges.ensures.size old.invariant.small;
+      long = length-set old.settled.charges old.place c.day_charges.result ∙ old.invariant.long;
     }

@@ -10,9 +10,9 @@ use Rattle.book.proofs.book.Book.settle.Given as goal
 
 abbrev pub invariant-loop-place : goal.invariant-loop-place
 invariant-loop-place l = record {
-  heavy : Rows (state_of l.self) (prices_in l.prices) Heavy (shares_in l.shares.heavy l.shares.light Heavy) l.place l.heavy;
-  light : Rows (state_of l.self) (prices_in l.prices) Light (shares_in l.shares.heavy l.shares.light Light) l.place l.light;
-  charges : (seller : ℕ) → 0 < seller → seller ≤ l.place → at 0 l.charges seller ≡ day_charges (state_of l.self) (prices_in l.prices) seller;
-  small : (seller : ℕ) → at 0 l.charges seller ≤ 144000000000000;
-  long : length l.charges ≡ 12;
+  heavy : Rows (state_of l.self) (prices_in l.prices) Heavy (shares_in l.shares.heavy l.shares.light Heavy) l.place l.settled.heavy;
+  light : Rows (state_of l.self) (prices_in l.prices) Light (shares_in l.shares.heavy l.shares.light Light) l.place l.settled.light;
+  charges : (seller : ℕ) → 0 < seller → seller ≤ l.place → at 0 l.settled.charges seller ≡ day_charges (state_of l.self) (prices_in l.prices) seller;
+  small : (seller : ℕ) → at 0 l.settled.charges seller ≤ 144000000000000;
+  long : length l.settled.charges ≡ 12;
 }

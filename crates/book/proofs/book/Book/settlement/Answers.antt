@@ -16,5 +16,5 @@ loop-place-preserved c =
     let P = prices_in a.prices.now in
     let seller = suc a.seller.place in
     let more =
-    total_z_more (λ buyer. holdback S P a.block seller buyer +ℤ energy S P a.block seller buyer) c.loop-place.place in
+    total_z_more (λ buyer. holdback S P a.hours.now.block seller buyer +ℤ energy S P a.hours.now.block seller buyer) c.loop-place.place in
     record { sum = rw add-one (omega (arith, ints)); size = omega (arith, ints) }

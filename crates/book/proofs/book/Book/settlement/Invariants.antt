@@ -11,6 +11,6 @@ invariant-loop-place l =
     let P = prices_in l.prices in
     let seller = suc l.seller.place in
     record {
-      sum : l.total ≡ total_z (λ buyer. holdback S P l.block seller buyer +ℤ energy S P l.block seller buyer) l.place;
+      sum : l.total ≡ total_z (λ buyer. holdback S P l.hours.block seller buyer +ℤ energy S P l.hours.block seller buyer) l.place;
       size : nat_abs l.total ≤ l.place * 528000000000;
     }

@@ -8,6 +8,6 @@ abbrev pub invariant-loop-place : goal.invariant-loop-place
 invariant-loop-place g l = record {
   places : length l.rows ≡ 12;
   divided : Divisions g.R.DivisionRule.LIMIT g.R.DivisionRule.moves (λ seller. get_or l.amounts seller 0)
-      (λ seller. make_whole_claims (state_of l.self) l.block (suc seller)) l.self.pool.parties
+      (λ seller. make_whole_claims (state_of l.self) l.hours.block (suc seller)) l.self.pool.parties
       l.place (g.R.DivisionRule.meaning l.fn.rule) l.rows (g.R.DivisionRule.meaning l.rule);
 }

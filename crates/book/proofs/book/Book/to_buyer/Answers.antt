@@ -8,6 +8,6 @@ pub returns-clause-value : goal.returns-clause-value
 returns-clause-value c = λ prices has.
     let e : to_z w64 (of_z w64 c.of_payee.result) ≡ c.of_payee.result = search rules in
     e ∙ c.of_payee.ensures.value
-    ∙ payee_same (state_of c.args.self.now) prices (suc c.args.seller.place) c.args.cuts.now has c.args.block
+    ∙ payee_same (state_of c.args.self.now) prices (suc c.args.seller.place) c.args.cuts.now.rows has c.args.block
     Uncovered (suc c.args.buyer.place)
     (omega arith, omega arith)
