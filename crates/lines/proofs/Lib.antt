@@ -1,0 +1,10 @@
+pub mod FigureTexts
+pub mod ValueTexts
+pub mod FieldTexts
+pub mod Firsts
+pub mod Fitting
+pub mod FieldReads
+pub mod Tables
+pub mod LineReads
+pub mod OneReading
+pub mod Filling

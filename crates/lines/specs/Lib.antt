@@ -1,0 +1,9 @@
+pub mod Shapes
+pub mod Values
+pub mod Texts
+pub mod Fits
+pub mod Rows
+pub mod Positions
+pub mod Reading
+pub mod Writing
+pub mod Laws

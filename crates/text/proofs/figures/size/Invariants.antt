@@ -1,0 +1,7 @@
+use Rattle.std.proofs.Common.{◌≡◌, take}
+use Rattle.std.specs.Str.Parse.{digits_value, AllDigits}
+use Rattle.text.proofs.figures.size.Given as goal
+
+abbrev pub invariant-loop-byte : goal.invariant-loop-byte
+invariant-loop-byte l =
+    AllDigits 10 (take l.byte-index l.bytes) × (l.size ≡ digits_value 10 (take l.byte-index l.bytes))

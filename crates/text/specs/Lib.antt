@@ -1,0 +1,5 @@
+pub mod Pieces
+pub mod Fields
+pub mod Lines
+pub mod Figures
+pub mod Placing
