@@ -1,65 +1,69 @@
-// Runs days of a pool of three parties through a book, and prints what came of them.
+// Reads a session from the files that are named as arguments, or from standard input, and writes what each line is told.
 #![tactic(auto)]
 
-mod days;
-mod report;
+mod arguments;
+mod problem;
+mod running;
 
-use crate::days::{DAY, MISS, sheet};
-use crate::report::{show_balances, show_page, show_pairs, show_year, tell};
-use book::book::Book;
-use book::entry::Entry;
-use book::payment::Payment;
-use book::statement::Statement;
-use rules::largest::LargestRemainder;
-use sheets::hour_sheet::HourSheet;
-use std::io;
+use crate::arguments::{Asked, asked_by};
+use crate::problem::Problem;
+use crate::running::answer;
+use std::io::BufWriter;
+use std::process::ExitCode;
+use std::{env, io};
 
-// Makes the calls of a day but its close, closes it, and shows what it left.
-fn run(
-    rt: &HostRuntime,
-    book: &mut Book,
-    sheet: &HourSheet,
-    calls: &[(&str, Entry)],
-) -> io::Result<()> {
-    let mut heavy = [Payment::NONE; 144];
-    let mut light = [Payment::NONE; 144];
-    let mut statement = Statement {
-        heavy: &mut heavy,
-        light: &mut light,
-    };
-    let mut rule = LargestRemainder;
-    for (text, entry) in calls {
-        tell(
-            rt,
-            text,
-            book.enter(*entry, sheet, &mut rule, &mut statement),
-        )?;
+const HELP: &str = "usage: holdbook [FILE]...
+
+Reads a session of a capacity-sharing pool, one entry a line, from the files in
+order, or from standard input where none is named, and answers each line:
+
+    +  LETTER                accepted
+    !  NUMBER  PLACE  PLACE  refused, and why
+    =  ACCOUNT  BALANCE      after an accepted Z: what each account has, in cents
+
+One tab parts the fields. docs/LINES.md has the entries, docs/REFUSALS.md the
+numbers.
+
+    --help  print this and end";
+
+// How many bytes are written at once, at most.
+const WRITTEN: usize = 65_536;
+
+// Does what the arguments ask for.
+fn run<'a>(rt: &HostRuntime, arguments: &'a [String]) -> Result<(), Problem<'a>> {
+    match asked_by(arguments) {
+        Asked::Help => match println!(rt; "{HELP}") {
+            Ok(()) => Ok(()),
+            Err(e) => Err(Problem::Output(e)),
+        },
+        Asked::Unknown(option) => Err(Problem::Option(option)),
+        Asked::Session(names) => {
+            match BufWriter::with_capacity(rt.alloc(), WRITTEN, io::writer(rt)) {
+                Ok(mut writer) => answer(rt, names, &mut writer),
+                Err(e) => Err(Problem::Output(e)),
+            }
+        }
     }
-    show_pairs(rt, book, 8)?;
-    tell(
-        rt,
-        "close",
-        book.enter(Entry::Close, sheet, &mut rule, &mut statement),
-    )?;
-    show_page(rt, "heavy", &mut heavy, book.parties())?;
-    show_page(rt, "light", &mut light, book.parties())?;
-    show_balances(rt, book)?;
-    show_year(rt, book, 1)
 }
 
-fn main(rt: HostRuntime) -> io::Result<()> {
-    match (
-        sheet(),
-        Book::new(3, 10_000_000, 1_530_200),
-        Book::new(3, 10_000_000, 1_530_200),
-    ) {
-        (Ok(sheet), Ok(mut quiet), Ok(mut tight)) => {
-            println!(rt; "a quiet day")?;
-            run(&rt, &mut quiet, &sheet, &DAY)?;
-            println!(rt; "")?;
-            println!(rt; "the same day with a miss")?;
-            run(&rt, &mut tight, &sheet, &MISS)
-        }
-        _ => println!(rt; "refused"),
+// What follows the program's own name.
+fn own_arguments(rt: &HostRuntime) -> io::Result<Vec<String>> {
+    let mut arguments = Vec::new(rt.alloc());
+    for argument in env::args(rt)?.skip(1) {
+        arguments.push(argument)?;
     }
+    Ok(arguments)
+}
+
+fn main(rt: HostRuntime) -> ExitCode {
+    let told = match own_arguments(&rt) {
+        Ok(arguments) => match run(&rt, &arguments) {
+            Ok(()) => return ExitCode::SUCCESS,
+            Err(problem) => eprintln!(rt; "holdbook: {problem}"),
+        },
+        Err(e) => eprintln!(rt; "holdbook: arguments: {e}"),
+    };
+    // Where not even standard error takes it, the status tells.
+    let _ = told;
+    ExitCode::FAILURE
 }

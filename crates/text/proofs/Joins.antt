@@ -27,17 +27,17 @@ joined_last (piece ∷ []) last others = refl
 joined_last (piece ∷ (next ∷ pieces)) last others = ap (λ rest. piece ∷ rest) (joined_last (next ∷ pieces) last others)
 
 -- bytes have a first piece
-record Some (pieces : List (List ℕ)) : Type 0 where
-  first : List ℕ
-  rest : List (List ℕ)
-  is : pieces ≡ first ∷ rest
+pub record Some (pieces : List (List ℕ)) : Type 0 where
+  pub first : List ℕ
+  pub rest : List (List ℕ)
+  pub is : pieces ≡ first ∷ rest
 
 onto_some : (byte : ℕ) (pieces : List (List ℕ)) → Some (onto byte pieces)
 onto_some byte [] = record { first = byte ∷ []; rest = []; is = refl }
 onto_some byte (piece ∷ pieces) = record { first = byte ∷ piece; rest = pieces; is = refl }
 
 module _ (stop : ℕ) where
-  cut_some : (bytes : List ℕ) → Some (cut stop bytes)
+  pub cut_some : (bytes : List ℕ) → Some (cut stop bytes)
   cut_some [] = record { first = []; rest = []; is = refl }
   cut_some (byte ∷ bytes) =
       elim (cases_eq byte stop) [

@@ -5,3 +5,4 @@ pub mod Signs
 pub mod Placing
 pub mod Digits
 pub mod Joins
+pub mod Counts

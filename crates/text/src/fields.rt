@@ -1,5 +1,5 @@
 // The fields of a line, as parts of it.
-ghost use Rattle.std.specs.Prelude.{◌≡◌, [], ◌∷◌, length, MatchBool, MatchOption, ◌≢◌};
+ghost use Rattle.std.specs.Prelude.{◌≡◌, ◌≢◌, ◌==◌, ◌≤◌, [], ◌∷◌, length, count_by, MatchBool, MatchOption};
 ghost use Rattle.text.specs.Fields.{fields_in, fields_left, bytes_of, Sorted, PartOf};
 
 use crate::pieces::end_of;
@@ -22,6 +22,13 @@ fn field_of<'a>(bytes: &'a [u8]) -> Field<'a>
         [b'-' | b'0'..=b'9', ..] => Field::Figure(bytes),
         _ => Field::Mark(bytes),
     }
+}
+
+fn tabs_in(bytes: &[u8]) -> usize
+    ensures count { result ≡ count_by (λ byte. byte == 9) bytes.now }
+    ensures few { result ≤ length bytes.now }
+{
+    bytes.iter().filter(|byte| **byte == b'\t').count()
 }
 
 // A line, and the place from which its fields are still to come.
@@ -59,12 +66,9 @@ impl<'a> Fields<'a> {
     pub fn are(&self, count: usize) -> bool
         ensures { MatchBool result (length (fields_left self.now) ≡ count) (length (fields_left self.now) ≢ count) }
     {
-        let mut rest = *self;
-        for _ in 0..count {
-            if rest.next().is_none() {
-                return false;
-            }
+        if self.place > self.line.len() {
+            return count == 0;
         }
-        rest.next().is_none()
+        count == tabs_in(&self.line[self.place..]) + 1
     }
 }

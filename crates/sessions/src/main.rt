@@ -1,0 +1,59 @@
+// Replays the sessions of a folder through the function that the program serves with, and compares their answers, byte
+// for byte, with those that the rules give.
+#![tactic(auto)]
+
+mod comparing;
+mod judging;
+mod names;
+mod verdict;
+
+use crate::judging::judge;
+use crate::names::NAMES;
+use crate::verdict::Verdict;
+use std::process::ExitCode;
+use std::rt::{Env, Files};
+use std::{env, fs, io};
+
+// Replays the session of that name.
+fn replay<R: Files + AllocGlobal>(rt: &R, folder: &str, name: &str) -> io::Result<Verdict> {
+    let text = fs::read(rt, format!(in rt.alloc(); "{folder}/{name}.txt")?)?;
+    let expected = fs::read(rt, format!(in rt.alloc(); "{folder}/{name}.answers")?)?;
+    judge(rt.alloc(), &text, &expected)
+}
+
+// Replays all sessions, writes a line for each, and tells whether each was answered as expected.
+fn replay_all<R: Files + AllocGlobal + Print>(rt: &R, folder: &str) -> io::Result<bool> {
+    let mut all = true;
+    for name in NAMES {
+        match replay(rt, folder, name) {
+            Ok(verdict) => {
+                println!(rt; "{name}: {verdict}")?;
+                all &= verdict.finds_no_fault();
+            }
+            Err(e) => {
+                println!(rt; "{name}: {e}")?;
+                all = false;
+            }
+        }
+    }
+    Ok(all)
+}
+
+// Replays the sessions of the folder that is named as an argument, or else of the one that this is run in.
+fn run<R: Files + AllocGlobal + Env + Print>(rt: &R) -> io::Result<bool> {
+    match env::args(rt)?.nth(1) {
+        Some(folder) => replay_all(rt, &folder),
+        None => replay_all(rt, "."),
+    }
+}
+
+fn main(rt: HostRuntime) -> ExitCode {
+    let told = match run(&rt) {
+        Ok(true) => return ExitCode::SUCCESS,
+        Ok(false) => Ok(()),
+        Err(e) => eprintln!(rt; "sessions: {e}"),
+    };
+    // Where not even standard error takes it, the status tells.
+    let _ = told;
+    ExitCode::FAILURE
+}
