@@ -22,7 +22,8 @@ joined_at none (row ∷ rows) twelve (suc seller) buyer l m =
     ∙ get_or-append-add row (joined rows) (seller * 12 + buyer) none
     ∙ joined_at none rows (λ place h. twelve (suc place) (omega arith)) seller buyer (omega arith) m
 
-pub page_of_rows : {E : Type 0} (none : E) (rows : List (List E)) → length rows ≡ 12 → OfTwelve rows → (seller buyer : ℕ) → seller < 12 → buyer < 12
+pub page_of_rows : {E : Type 0} (none : E) (rows : List (List E)) → length rows ≡ 12 → OfTwelve rows → (seller buyer : ℕ) → seller < 12
+    → buyer < 12
     → page_at none (joined rows) (suc seller) (suc buyer) ≡ get_or (get_or rows seller []) buyer none
 page_of_rows none rows count twelve seller buyer l m =
     let e : (suc seller - 1) * 12 + (suc buyer - 1) ≡ seller * 12 + buyer = omega arith in

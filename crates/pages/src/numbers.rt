@@ -3,6 +3,7 @@ ghost use Rattle.std.specs.Prelude.{◌≡◌};
 ghost use Rattle.tariff.specs.Answers.{told, Gives};
 ghost use Rattle.pages.specs.Pages.{is_party, page_answer, entry_answer, place};
 
+use crate::page::PAGE_ENTRIES;
 use tariff::refusal::Refusal;
 
 fn is_party(number: u64) -> bool
@@ -15,7 +16,7 @@ fn is_party(number: u64) -> bool
 pub(crate) fn check_count(count: usize) -> Result<(), Refusal>
     ensures { told result ≡ page_answer count }
 {
-    if count != 144 {
+    if count != PAGE_ENTRIES {
         return Err(Refusal::PageSize {
             count: count as u64,
         });

@@ -6,6 +6,9 @@ ghost use Rattle.pages.specs.Pages.{page_answer, entry_answer, joined, page_at, 
 use crate::numbers::{check_count, place};
 use tariff::refusal::Refusal;
 
+// One entry for each seller and buyer of twelve.
+pub const PAGE_ENTRIES: usize = 144;
+
 // Writes the row of a seller, by its place among the sellers.
 fn write_row<E: Copy>(entries: &mut [E], seller: usize, row: &[E; 12])
     requires page { length entries.old ≡ 144 }

@@ -1,9 +1,11 @@
 -- The units left go to the largest remainders. Assumes nothing.
-use Rattle.std.proofs.Common.{◌≡◌, ℕ, ◌+◌, ◌<◌, ◌≤◌, Bool, true, false, ltb, ◌⊎◌, List, length, get_or, sym, refl, ap, ◌∙◌, inl, inr, ⊎_elim, arith}
+use Rattle.std.proofs.Common.{◌≡◌, ℕ, ◌+◌, ◌<◌, ◌≤◌, Bool, true, false, ltb, ◌⊎◌, List, length}
+use Rattle.std.proofs.Common.{get_or, sym, refl, ap, ◌∙◌, inl, inr, ⊎_elim, arith}
 use Rattle.std.proofs.lemmas.List.FromFn.{get_or-map-range_with_len}
 use Rattle.std.proofs.lemmas.Bool.{cases_Bool}
 use Rattle.std.proofs.lemmas.Bool.Decides.{nat_tests}
-use Rattle.rules.specs.LargestRemainder.{LargestFirst, UnitsToLargest, ahead, largest, largest_share, rank_of, remainder, units_left, whole_part}
+use Rattle.rules.specs.LargestRemainder.{LargestFirst, UnitsToLargest, ahead, largest, largest_share}
+use Rattle.rules.specs.LargestRemainder.{rank_of, remainder, units_left, whole_part}
 use Rattle.rules.specs.Counts.{one_if}
 use Rattle.rules.specs.Ranks.{rank_less}
 

@@ -6,7 +6,7 @@ use Rattle.std.proofs.lemmas.List.FromFn.{get_or-map-range_with_len, length-map-
 use Rattle.std.proofs.lemmas.List.Sums.{get_or-le-sum_by, sum_by-cons, sum_by_more}
 use Rattle.std.proofs.lemmas.Bool.{and_parts, cases_lt, leb-true}
 use Rattle.std.proofs.lemmas.Bool.Decides.{nat_tests}
-use Rattle.tariff.specs.Division.{Accepted, Lawful, all_within, gap}
+use Rattle.tariff.specs.Division.{Accepted, Lawful, all_within, gap, most_claim}
 
 -- nothing to divide where the claims come to 0
 abbrev pub Claimed : ℕ → List ℕ → Type 0
@@ -19,16 +19,17 @@ pub claimed_or_none : (total : ℕ) (claims : List ℕ) → Claimed total claims
 claimed_or_none total claims ok = ⊎_elim inl (λ (h : sum claims ≤ 0). inr (ok (omega arith))) (cases_lt 0 (sum claims))
 
 -- claims within their limit
-pub sum_within : (claims : List ℕ) → all_within claims ≡ true → sum claims ≤ 500000 * length claims
+pub sum_within : (claims : List ℕ) → all_within claims ≡ true → sum claims ≤ most_claim * length claims
 sum_within [] h = omega arith
 sum_within (w ∷ ws) h =
-    let both = and_parts (nat_le w 500000) (all_within ws) h in
-    omega (arith, sum_by-cons (λ x. x) w ws, leb-true w 500000 both.0, sum_within ws both.1)
+    let both = and_parts (nat_le w most_claim) (all_within ws) h in
+    omega (arith, sum_by-cons (λ x. x) w ws, leb-true w most_claim both.0, sum_within ws both.1)
 
 -- one claim more, times the total
 pub product_more : (total : ℕ) (claims : List ℕ) (i : ℕ) → i < length claims →
     total * sum (take (i + 1) claims) ≡ total * sum (take i claims) + total * slice_index claims i
-product_more total claims i h = ap (λ n. total * n) (sum_by_more (λ x. x) claims i 0 h) ∙ mul-add total (sum (take i claims)) (slice_index claims i)
+product_more total claims i h =
+    ap (λ n. total * n) (sum_by_more (λ x. x) claims i 0 h) ∙ mul-add total (sum (take i claims)) (slice_index claims i)
 
 -- shares that come to the total, each within one unit of its exact part, keep the law
 pub lawful_by : (share : ℕ → ℕ) (total : ℕ) (claims : List ℕ) →

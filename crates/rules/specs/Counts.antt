@@ -1,5 +1,6 @@
 -- Sums and counts over lists, and over the places below n. Assumes nothing.
-use Rattle.std.specs.Prelude.{◌≡◌, ℕ, zero, suc, ◌+◌, ◌*◌, ◌<◌, ◌≤◌, Bool, true, false, if◌then◌else◌, List, [], ◌∷◌, map, sum, sum_by, count_by, refl}
+use Rattle.std.specs.Prelude.{◌≡◌, ℕ, zero, suc, ◌+◌, ◌*◌, ◌<◌, ◌≤◌, Bool, true, false}
+use Rattle.std.specs.Prelude.{if◌then◌else◌, List, [], ◌∷◌, map, sum, sum_by, count_by, refl}
 use Rattle.std.proofs.Common.{⊎_elim, sym, subst, ap, ◌∙◌, add-mul, add-one, arith}
 use Rattle.std.specs.List.{range_with_len}
 use Rattle.std.proofs.lemmas.List.FromFn.{length-range_with_len, sum_by-map-range_with_len_more, take-map-range_with_len}
@@ -48,12 +49,16 @@ one_if_le true b h = rw (h refl) (omega arith)
 pub count_more : (p : ℕ → Bool) (n : ℕ) → count_by p (range_with_len 0 (n + 1)) ≡ count_by p (range_with_len 0 n) + one_if (p n)
 count_more p n = sum_more (λ i. one_if (p i)) n
 
-pub count_le : (p q : ℕ → Bool) (n : ℕ) → ((i : ℕ) → i < n → p i ≡ true → q i ≡ true) → count_by p (range_with_len 0 n) ≤ count_by q (range_with_len 0 n)
+pub count_le : (p q : ℕ → Bool) (n : ℕ) → ((i : ℕ) → i < n → p i ≡ true → q i ≡ true)
+    → count_by p (range_with_len 0 n) ≤ count_by q (range_with_len 0 n)
 count_le p q =
-    by_count (λ n. ((i : ℕ) → i < n → p i ≡ true → q i ≡ true) → count_by p (range_with_len 0 n) ≤ count_by q (range_with_len 0 n)) (λ _. omega arith)
-    (λ n before h. omega (arith, before (λ i l. h i (omega arith)), one_if_le (p n) (q n) (h n (omega arith)), count_more p n, count_more q n))
+    by_count (λ n. ((i : ℕ) → i < n → p i ≡ true → q i ≡ true) → count_by p (range_with_len 0 n) ≤ count_by q (range_with_len 0 n))
+    (λ _. omega arith)
+    (λ n before h.
+    omega (arith, before (λ i l. h i (omega arith)), one_if_le (p n) (q n) (h n (omega arith)), count_more p n, count_more q n))
 
-pub count_same : (p q : ℕ → Bool) (n : ℕ) → ((i : ℕ) → i < n → p i ≡ q i) → count_by p (range_with_len 0 n) ≡ count_by q (range_with_len 0 n)
+pub count_same : (p q : ℕ → Bool) (n : ℕ) → ((i : ℕ) → i < n → p i ≡ q i)
+    → count_by p (range_with_len 0 n) ≡ count_by q (range_with_len 0 n)
 count_same p q =
     by_count (λ n. ((i : ℕ) → i < n → p i ≡ q i) → count_by p (range_with_len 0 n) ≡ count_by q (range_with_len 0 n)) (λ _. refl)
     (λ n before h. omega (arith, before (λ i l. h i (omega arith)), ap one_if (h n (omega arith)), count_more p n, count_more q n))
@@ -68,7 +73,8 @@ pub count_less : (p q : ℕ → Bool) (n : ℕ) → Less p q n
 count_less p q =
     by_count (Less p q) (λ _ j l. omega arith)
     (λ n before h j l e f. ⊎_elim
-    (λ (m : j < n). omega (arith, before (λ i k. h i (omega arith)) j m e f, one_if_le (p n) (q n) (h n (omega arith)), count_more p n, count_more q n))
+    (λ (m : j < n).
+    omega (arith, before (λ i k. h i (omega arith)) j m e f, one_if_le (p n) (q n) (h n (omega arith)), count_more p n, count_more q n))
     (λ (m : n ≤ j). let z : n ≡ j = omega arith in
     let none : one_if (p n) ≡ 0 = rw (z, e) in
     let one : one_if (q n) ≡ 1 = rw (z, f) in

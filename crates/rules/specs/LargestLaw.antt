@@ -1,5 +1,6 @@
 -- Largest remainder keeps the law. Assumes nothing.
-use Rattle.std.specs.Prelude.{◌≡◌, ℕ, zero, suc, ◌+◌, ◌*◌, ◌/◌, ◌%◌, ◌<◌, ◌≤◌, Bool, true, false, ltb, List, length, take, sum, sum_by, count_by, nat_lt, slice_index, refl}
+use Rattle.std.specs.Prelude.{◌≡◌, ℕ, zero, suc, ◌+◌, ◌*◌, ◌/◌, ◌%◌, ◌<◌, ◌≤◌, Bool, true, false, ltb, List}
+use Rattle.std.specs.Prelude.{length, take, sum, sum_by, count_by, nat_lt, slice_index, refl}
 use Rattle.std.proofs.Common.{take_all, ⊎_elim, ap, ◌∙◌, add-mul, div-add-mod', le_of_mul-le-mul_right, mod-lt, one-mul, zero-mul, arith}
 use Rattle.std.specs.List.{range_with_len}
 use Rattle.std.proofs.Math.Nat.{zero-div}
@@ -53,7 +54,8 @@ module _ (T : ℕ) (ws : List ℕ) where
 
   -- a whole part is at most what the ones before it leave
   pub whole_within : Claimed T ws → (i : ℕ) → i < length ws → wholes i + whole_part T ws i ≤ T
-  whole_within ok i l = omega (arith, wholes_le ok, sum_more (whole_part T ws) i, sum_front (whole_part T ws) (i + 1) (length ws) (omega arith))
+  whole_within ok i l =
+      omega (arith, wholes_le ok, sum_more (whole_part T ws) i, sum_front (whole_part T ws) (i + 1) (length ws) (omega arith))
 
   -- there is no more than one unit for each remainder above 0
   left_le : Claimed T ws → units_left T ws ≤ count_by (λ i. ltb 0 (remainder T ws i)) (range_with_len 0 (length ws))
@@ -63,7 +65,8 @@ module _ (T : ℕ) (ws : List ℕ) where
       ⊎_elim
       (λ (h : 0 < sum ws).
       let low : (i : ℕ) → remainder T ws i ≤ sum ws = λ i. omega (arith, mod-lt (T * slice_index ws i) h) in
-      let each = sum_by-le-sum_by (remainder T ws) (λ i. units i * sum ws) (range_with_len 0 n) (λ i. covered (remainder T ws i) (sum ws) (low i)) in
+      let each = sum_by-le-sum_by (remainder T ws) (λ i. units i * sum ws) (range_with_len 0 n)
+      (λ i. covered (remainder T ws i) (sum ws) (low i)) in
       let split = add-mul (units_left T ws) (wholes n) (sum ws) in
       let back : (units_left T ws + wholes n) * sum ws ≡ T * sum ws = ap (λ n. n * sum ws) (omega (arith, wholes_le ok)) in
       le_of_mul-le-mul_right (omega (arith, all_parts, sum_scale units (sum ws) (range_with_len 0 n))) h)
@@ -86,5 +89,6 @@ largest_lawful T ws ok =
     let few : units_left T ws ≤ length ws = omega (arith, left_le T ws own, count_within (λ i. ltb 0 (remainder T ws i)) (length ws)) in
     let units = ranked (remainder T ws) (length ws) (units_left T ws) few in
     let both = sum_add (whole_part T ws) (λ i. one_if (unit i)) (range_with_len 0 (length ws)) in
-    lawful_by (largest_share T ws) T ws (sum-map (largest_share T ws) (range_with_len 0 (length ws)) ∙ both ∙ omega (arith, wholes_le T ws own))
+    lawful_by (largest_share T ws) T ws
+    (sum-map (largest_share T ws) (range_with_len 0 (length ws)) ∙ both ∙ omega (arith, wholes_le T ws own))
     (λ h i l. near_one (T * slice_index ws i) (sum ws) (unit i) h (λ e. served_above T ws own i (ltb-true _ _ e)))

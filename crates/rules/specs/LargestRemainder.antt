@@ -1,5 +1,6 @@
 -- Largest remainder. Assumes nothing.
-use Rattle.std.specs.Prelude.{◌≡◌, ℕ, ◌+◌, ◌-◌, ◌*◌, ◌/◌, ◌%◌, ◌<◌, Bool, if◌then◌else◌, ◌&&◌, ◌||◌, ◌⊎◌, List, map, length, sum, sum_by, count_by, ◌==◌, nat_lt, slice_index}
+use Rattle.std.specs.Prelude.{◌≡◌, ℕ, ◌+◌, ◌-◌, ◌*◌, ◌/◌, ◌%◌, ◌<◌, Bool, if◌then◌else◌, ◌&&◌, ◌||◌, ◌⊎◌}
+use Rattle.std.specs.Prelude.{List, map, length, sum, sum_by, count_by, ◌==◌, nat_lt, slice_index}
 use Rattle.std.specs.List.{range_with_len}
 use Rattle.tariff.specs.Division.{Division}
 
@@ -25,7 +26,8 @@ rank_of key n i = count_by (ahead key i) (range_with_len 0 n)
 
 -- the whole part, and a unit more where fewer places come before this one by a key than there are units left
 abbrev pub keyed_share : (ℕ → ℕ) → ℕ → List ℕ → ℕ → ℕ
-keyed_share key total claims i = whole_part total claims i + (if nat_lt (rank_of key (length claims) i) (units_left total claims) then 1 else 0)
+keyed_share key total claims i =
+    whole_part total claims i + (if nat_lt (rank_of key (length claims) i) (units_left total claims) then 1 else 0)
 
 -- the units left go to the largest remainders
 abbrev pub largest_share : ℕ → List ℕ → ℕ → ℕ
@@ -38,7 +40,8 @@ largest total claims = map (largest_share total claims) (range_with_len 0 (lengt
 -- place got a unit and another did not, the first has the larger remainder, or an equal one and stands earlier.
 pub record UnitsToLargest (total : ℕ) (claims : List ℕ) : Type 0 where
   pub single : (i : ℕ) → i < length claims
-      → (slice_index (largest total claims) i ≡ whole_part total claims i) ⊎ (slice_index (largest total claims) i ≡ whole_part total claims i + 1)
+      → (slice_index (largest total claims) i ≡ whole_part total claims i)
+      ⊎ (slice_index (largest total claims) i ≡ whole_part total claims i + 1)
   pub larger : (i j : ℕ) → i < length claims → j < length claims
       → slice_index (largest total claims) i ≡ whole_part total claims i + 1
       → slice_index (largest total claims) j ≡ whole_part total claims j

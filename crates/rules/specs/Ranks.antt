@@ -37,7 +37,8 @@ module _ (r : ℕ → ℕ) where
 
   -- a place below n either comes before place n, with a lower rank, or after, with a rank no lower that goes up by one
   sides : (n i : ℕ) → i < n →
-      ((rank_of r (n + 1) i ≡ rank_of r n i) × (rank_of r n i < rank_of r n n)) ⊎ ((rank_of r (n + 1) i ≡ rank_of r n i + 1) × (rank_of r n n ≤ rank_of r n i))
+      ((rank_of r (n + 1) i ≡ rank_of r n i) × (rank_of r n i < rank_of r n n))
+      ⊎ ((rank_of r (n + 1) i ≡ rank_of r n i + 1) × (rank_of r n n ≤ rank_of r n i))
   sides n i l =
       ⊎_elim
       (λ e. inl (omega (arith, rank_more n i, ap one_if (ahead_one_way n i e)), rank_less n i n l e))

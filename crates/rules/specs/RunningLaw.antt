@@ -1,6 +1,7 @@
 -- Running total keeps the law. Assumes nothing.
 use Rattle.std.specs.Prelude.{◌≡◌, ℕ, zero, suc, ◌+◌, ◌-◌, ◌*◌, ◌/◌, ◌<◌, ◌≤◌, List, map, length, take, sum, slice_index}
-use Rattle.std.proofs.Common.{take_all, ⊎_elim, sym, ap, ◌∙◌, add-mul, div-add-mod', div-mul-le_self, mod-lt, mul-div_cancel, mul-zero, zero-mul, arith}
+use Rattle.std.proofs.Common.{take_all, ⊎_elim, sym, ap, ◌∙◌, add-mul, div-add-mod'}
+use Rattle.std.proofs.Common.{div-mul-le_self, mod-lt, mul-div_cancel, mul-zero, zero-mul, arith}
 use Rattle.std.proofs.Math.Nat.{div-zero, zero-div}
 use Rattle.std.specs.List.{range_with_len}
 use Rattle.std.proofs.lemmas.Nat.{le-div}

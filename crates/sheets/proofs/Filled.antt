@@ -1,5 +1,6 @@
 -- Rows of hours: one in which every hour is missing, and one of which a part is filled. Assumes nothing.
-use Rattle.std.proofs.Common.{◌≡◌, ℕ, zero, suc, ◌+◌, ◌-◌, ◌<◌, ◌≤◌, Bool, true, false, cond, ◌&&◌, eqb, leb, ltb, List, length, get_or, replicate, None, ⊎_elim, ◌∙◌, refl, ap, arith, rules, length-drop, length-take}
+use Rattle.std.proofs.Common.{◌≡◌, ℕ, zero, suc, ◌+◌, ◌-◌, ◌<◌, ◌≤◌, Bool, true, false, cond, ◌&&◌, eqb, leb, ltb, List, length}
+use Rattle.std.proofs.Common.{get_or, replicate, None, ⊎_elim, ◌∙◌, refl, ap, arith, rules, length-drop, length-take}
 use Rattle.std.proofs.lemmas.Bool.{cases_lt, cond_both}
 use Rattle.std.proofs.lemmas.Bool.Decides.{nat_tests}
 use Rattle.std.proofs.lemmas.List.{get_or-replicate, places}
@@ -19,7 +20,8 @@ same_everywhere (suc n) zero d = refl
 same_everywhere (suc n) (suc k) d = same_everywhere n k d
 
 -- a sheet on which one hour that has no figure stands everywhere
-module _ {Q : Type 0} (sheet : DaySheet Q) (h : Hour) (all : sheet.hours ≡ replicate 24 h) (none : (h.real_time ≡ None) × (h.factor ≡ None)) where
+module _ {Q : Type 0} (sheet : DaySheet Q) (h : Hour) (all : sheet.hours ≡ replicate 24 h)
+    (none : (h.real_time ≡ None) × (h.factor ≡ None)) where
   no_figure : h ≡ missing
   no_figure = λ i. record { real_time = none.0 i; factor = none.1 i }
 
@@ -29,7 +31,8 @@ module _ {Q : Type 0} (sheet : DaySheet Q) (h : Hour) (all : sheet.hours ≡ rep
       (λ _. rw (all, no_figure) (same_everywhere 24 (hour - 1) missing)) (λ _. refl)
 
   pub sheet_opened : sheet_of sheet ≡ opened sheet.day (cents_of sheet.heavy) (cents_of sheet.light)
-  sheet_opened = same_sheet _ _ refl (λ d block. refl) (λ d hour. ap (λ x. cents_of x.real_time) (nothing d hour)) (λ d hour. ap (λ x. parts_of x.factor) (nothing d hour))
+  sheet_opened = same_sheet _ _ refl (λ d block. refl) (λ d hour. ap (λ x. cents_of x.real_time) (nothing d hour))
+      (λ d hour. ap (λ x. parts_of x.factor) (nothing d hour))
 
 -- a place of a row after k places from a on were filled with v
 at_filled : {A : Type 0} (a k : ℕ) (xs ys : List A) (v d : A) (i : ℕ) → a + k ≤ length xs → ys ≡ replicate k v
@@ -39,7 +42,10 @@ at_filled a k xs ys v d i h e =
     (λ (l : i < a). let f : get_or (put_mid a k xs ys) i d ≡ get_or xs i d = search (rules, places) in grind (arith, nat_tests))
     (λ (m : a ≤ i).
     ⊎_elim
-    (λ (l : i < a + k). let f : get_or (put_mid a k xs ys) i d ≡ get_or ys (i - a) d = search (rules, places) in let g : get_or ys (i - a) d ≡ v = ap (λ zs. get_or zs (i - a) d) e ∙ get_or-replicate k (i - a) v d (omega arith) in grind (arith, nat_tests))
+    (λ (l : i < a + k).
+    let f : get_or (put_mid a k xs ys) i d ≡ get_or ys (i - a) d = search (rules, places) in
+    let g : get_or ys (i - a) d ≡ v = ap (λ zs. get_or zs (i - a) d) e ∙ get_or-replicate k (i - a) v d (omega arith) in
+    grind (arith, nat_tests))
     (λ (n : a + k ≤ i). let f : get_or (put_mid a k xs ys) i d ≡ get_or xs i d = search (rules, places) in grind (arith, nat_tests))
     (cases_lt i (a + k)))
     (cases_lt i a)
@@ -58,14 +64,18 @@ of_either f true x y = refl
 of_either f false x y = refl
 
 -- a sheet after the hours from first to last got one value
-module _ {Q : Type 0} (sheet : DaySheet Q) (first last : ℕ) (ys : List Hour) (v : Hour) (low : 1 ≤ first) (order : first ≤ last) (high : last ≤ 24)
+module _ {Q : Type 0} (sheet : DaySheet Q) (first last : ℕ) (ys : List Hour) (v : Hour) (low : 1 ≤ first) (order : first ≤ last)
+    (high : last ≤ 24)
     (n : length sheet.hours ≡ 24) (all : ys ≡ replicate (length (mid_of (first - 1) (last - (first - 1)) sheet.hours)) v) where
   e : ys ≡ replicate (last - (first - 1)) v
   e = all ∙ ap (λ k. replicate k v) (simp (length-take, length-drop) (omega arith))
 
   part : {B : Type 0} (f : Hour → B) (d hour : ℕ)
-      → f (hour_of (record sheet { hours = put_mid (first - 1) (last - (first - 1)) sheet.hours ys }) d hour) ≡ cond (among sheet.day first last d hour) (f v) (f (hour_of sheet d hour))
-  part f d hour = ap f (hour_filled sheet.day first last sheet.hours ys v low order high n e d hour) ∙ of_either f (among sheet.day first last d hour) v (hour_of sheet d hour)
+      → f (hour_of (record sheet { hours = put_mid (first - 1) (last - (first - 1)) sheet.hours ys }) d hour)
+      ≡ cond (among sheet.day first last d hour) (f v) (f (hour_of sheet d hour))
+  part f d hour = ap f (hour_filled sheet.day first last sheet.hours ys v low order high n e d hour)
+      ∙ of_either f (among sheet.day first last d hour) v (hour_of sheet d hour)
 
-  pub sheet_filled : sheet_of (record sheet { hours = put_mid (first - 1) (last - (first - 1)) sheet.hours ys }) ≡ filled first last (cents_of v.real_time) (parts_of v.factor) (sheet_of sheet)
+  pub sheet_filled : sheet_of (record sheet { hours = put_mid (first - 1) (last - (first - 1)) sheet.hours ys })
+      ≡ filled first last (cents_of v.real_time) (parts_of v.factor) (sheet_of sheet)
   sheet_filled = same_sheet _ _ refl (λ d block. refl) (part (λ h. cents_of h.real_time)) (part (λ h. parts_of h.factor))

@@ -10,7 +10,9 @@ use tariff::figures::{Price, enter_or_miss};
 use tariff::refusal::Refusal;
 
 // The four results stand at positions 3 to 6 of the entry.
-pub type QuarterSheet = DaySheet<[Option<i64>; 4]>;
+pub type Quarters = [Option<i64>; 4];
+
+pub type QuarterSheet = DaySheet<Quarters>;
 
 // The average of four results, missing if one of them is: four names, as in `Price::average`.
 fn average(
@@ -24,7 +26,7 @@ fn average(
     Some(Price::average(first?, second?, third?, fourth?))
 }
 
-impl RealTime for [Option<i64>; 4] {
+impl RealTime for Quarters {
     const FACTOR: u64 = 7;
 
     ghost FACTOR = { 7 };

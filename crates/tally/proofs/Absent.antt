@@ -1,5 +1,6 @@
 -- A number above the last party's has no payment. Assumes nothing.
-use Rattle.std.proofs.Common.{◌≡◌, ℕ, ◌<◌, ◌≤◌, Bool, true, false, cond, eqb, ltb, ◌⊎◌, pos, ◌+ℤ◌, refl, ap, ap₂, inl, inr, ⊎_elim, mul-zero, arith}
+use Rattle.std.proofs.Common.{◌≡◌, ℕ, ◌<◌, ◌≤◌, Bool, true, false, cond, eqb, ltb, ◌⊎◌, pos}
+use Rattle.std.proofs.Common.{◌+ℤ◌, refl, ap, ap₂, inl, inr, ⊎_elim, mul-zero, arith}
 use lib.IntN.{zero-*ℤ}
 use Rattle.std.proofs.lemmas.Bool.{cases_lt}
 use Rattle.tariff.specs.Answers.{granted}
@@ -77,8 +78,10 @@ module _ (state : State) (sound : Sound state) where
       cut_absent hour = rw (missed_absent hour, mul-zero) (omega arith)
 
       charges_absent : (part : Cover → ℕ → ℕ) → ((cover : Cover) → part cover 0 ≡ 0)
-          → block_total state block (λ hour. pos (part ((hour_at state hour).cover seller buyer) (cut_charge state prices seller hour buyer))) ≡ pos 0
-      charges_absent part none = block_zero state block _ (λ hour _. rw (cut_absent hour) (ap pos (none ((hour_at state hour).cover seller buyer))))
+          → block_total state block
+          (λ hour. pos (part ((hour_at state hour).cover seller buyer) (cut_charge state prices seller hour buyer))) ≡ pos 0
+      charges_absent part none =
+          block_zero state block _ (λ hour _. rw (cut_absent hour) (ap pos (none ((hour_at state hour).cover seller buyer))))
 
   -- a seller of that number holds nothing, so it lacks nothing
   make_whole_absent : (prices : DayPrices) (block : Block) (seller : ℕ) → parties < seller → make_whole state prices block seller ≡ 0
@@ -87,7 +90,8 @@ module _ (state : State) (sound : Sound state) where
       rw (settled, revenue_none state prices block seller none, credits_none state prices block seller none) refl
     where
       none : largest_holding state block seller ≡ 0
-      none = let h = block_greatest_bound state block (λ hour. (hour_at state hour).holdings seller) 0 (λ hour _. omega (arith, holding_absent hour seller l)) in omega arith
+      none = let h = block_greatest_bound state block (λ hour. (hour_at state hour).holdings seller) 0
+          (λ hour _. omega (arith, holding_absent hour seller l)) in omega arith
 
       settled : settlement state prices block seller ≡ pos 0
       settled =
@@ -96,12 +100,16 @@ module _ (state : State) (sound : Sound state) where
 
 -- a share of nothing, or of a number that has no place
 share_absent : (most amount n : ℕ) (claim : ℕ → ℕ) (rule : Division) (buyer : ℕ) → LawfulRule most rule → n < buyer → (none : Bool)
-    → cond none granted (division_answer most amount (listed claim n) n) ≡ granted → cond none 0 (numbered (rule amount (listed claim n)) buyer) ≡ 0
+    → cond none granted (division_answer most amount (listed claim n) n) ≡ granted
+    → cond none 0 (numbered (rule amount (listed claim n)) buyer) ≡ 0
 share_absent most amount n claim rule buyer lawful l true ok = refl
-share_absent most amount n claim rule buyer lawful l false ok = shares_absent claim n amount (rule amount (listed claim n)) (accepted most amount rule claim n lawful ok) buyer l
+share_absent most amount n claim rule buyer lawful l false ok =
+    shares_absent claim n amount (rule amount (listed claim n)) (accepted most amount rule claim n lawful ok) buyer l
 
-module _ (state : State) (sound : Sound state) (prices : DayPrices) (most : ℕ) (meanings : ℕ → Division) (block : Block) (seller buyer : ℕ) where
-  make_whole_share_absent : ((turn : ℕ) → LawfulRule most (meanings turn)) → (seller ≤ state.set_up.parties → sharing_answer state prices most block seller ≡ granted)
+module _ (state : State) (sound : Sound state) (prices : DayPrices) (most : ℕ) (meanings : ℕ → Division) (block : Block)
+    (seller buyer : ℕ) where
+  make_whole_share_absent : ((turn : ℕ) → LawfulRule most (meanings turn))
+      → (seller ≤ state.set_up.parties → sharing_answer state prices most block seller ≡ granted)
       → (state.set_up.parties < seller) ⊎ (state.set_up.parties < buyer) → make_whole_share state prices meanings block seller buyer ≡ 0
   unfolding make_whole_share
   make_whole_share_absent lawful granted? (inl l) = rw (make_whole_absent state sound prices block seller l) refl

@@ -22,8 +22,10 @@ module _ (parties : ℕ) (statement : Statement) where
   sellers_as_buyers : (F : Payment → ℤ) → total_z (of_seller parties statement F) parties ≡ total_z (of_buyer parties statement F) parties
   sellers_as_buyers F =
       total_z_add (λ s. total_z (λ b. F (statement Heavy s b)) parties) (λ s. total_z (λ b. F (statement Light s b)) parties) parties
-      ∙ ap₂ ◌+ℤ◌ (total_z_swap (λ s b. F (statement Heavy s b)) parties parties) (total_z_swap (λ s b. F (statement Light s b)) parties parties)
-      ∙ sym (total_z_add (λ b. total_z (λ s. F (statement Heavy s b)) parties) (λ b. total_z (λ s. F (statement Light s b)) parties) parties)
+      ∙ ap₂ ◌+ℤ◌ (total_z_swap (λ s b. F (statement Heavy s b)) parties parties)
+      (total_z_swap (λ s b. F (statement Light s b)) parties parties)
+      ∙ sym (total_z_add (λ b. total_z (λ s. F (statement Heavy s b)) parties)
+      (λ b. total_z (λ s. F (statement Light s b)) parties) parties)
 
   -- two figures together
   both_figures : (F G : Payment → ℤ) (seller : ℕ)
@@ -37,7 +39,8 @@ module _ (parties : ℕ) (statement : Statement) where
   paid : total_z (paid_to parties statement) parties
       ≡ total_z (of_seller parties statement buyer_pays) parties +ℤ total_z (of_buyer parties statement (λ p. p.to_buyer)) parties
   unfolding paid_to
-  paid = total_z_same _ _ parties each ∙ total_z_add (of_seller parties statement buyer_pays) (of_buyer parties statement (λ p. p.to_buyer)) parties
+  paid = total_z_same _ _ parties each
+      ∙ total_z_add (of_seller parties statement buyer_pays) (of_buyer parties statement (λ p. p.to_buyer)) parties
     where
       each : (k : ℕ) → 0 < k → k ≤ parties
           → paid_to parties statement k ≡ of_seller parties statement buyer_pays k +ℤ of_buyer parties statement (λ p. p.to_buyer) k
@@ -47,7 +50,8 @@ module _ (parties : ℕ) (statement : Statement) where
   taken : total_z (taken_from parties statement) parties
       ≡ total_z (of_buyer parties statement buyer_pays) parties +ℤ total_z (of_seller parties statement seller_pays) parties
   unfolding taken_from
-  taken = total_z_same _ _ parties each ∙ total_z_add (of_buyer parties statement buyer_pays) (of_seller parties statement seller_pays) parties
+  taken =
+      total_z_same _ _ parties each ∙ total_z_add (of_buyer parties statement buyer_pays) (of_seller parties statement seller_pays) parties
     where
       each : (k : ℕ) → 0 < k → k ≤ parties
           → taken_from parties statement k ≡ of_buyer parties statement buyer_pays k +ℤ of_seller parties statement seller_pays k

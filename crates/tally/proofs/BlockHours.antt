@@ -7,10 +7,12 @@ use Rattle.tally.specs.DayPrices.{in_block}
 use Rattle.tally.specs.Numbered.{total, total_z}
 use Rattle.tally.specs.Settlement.{block_total, block_greatest}
 use Rattle.tally.specs.States.{State}
-use Rattle.tally.proofs.Numbering.{total_none, total_more, total_z_none, total_z_more, total_z_zero, total_z_bound, greatest_bound, le_greatest}
+use Rattle.tally.proofs.Numbering.{total_none, total_more, total_z_none, total_z_more}
+use Rattle.tally.proofs.Numbering.{total_z_zero, total_z_bound, greatest_bound, le_greatest}
 
 -- a sum falls below 0 by no more than its figures do
-pub total_z_low : (f : ℕ → ℤ) (g : ℕ → ℕ) (n : ℕ) → ((k : ℕ) → 0 < k → k ≤ n → pos 0 ≤ℤ (f k +ℤ pos (g k))) → pos 0 ≤ℤ (total_z f n +ℤ pos (total g n))
+pub total_z_low : (f : ℕ → ℤ) (g : ℕ → ℕ) (n : ℕ) → ((k : ℕ) → 0 < k → k ≤ n → pos 0 ≤ℤ (f k +ℤ pos (g k)))
+    → pos 0 ≤ℤ (total_z f n +ℤ pos (total g n))
 total_z_low f g zero h = rw (total_z_none f, total_none g) (omega (arith, ints))
 total_z_low f g (suc n) h =
     let a = total_z_low f g n (λ k l m. h k l (omega arith)) in
@@ -50,7 +52,8 @@ module _ (state : State) (block : Block) where
       total_z_low (λ hour. cond (in_block state block hour) (f hour) (pos 0)) g 24
       (inside_or_out f (pos 0) (λ hour z. pos 0 ≤ℤ (z +ℤ pos (g hour))) h (λ hour. omega (arith, ints)))
 
-  pub block_greatest_bound : (f : ℕ → ℕ) (most : ℕ) → ((hour : ℕ) → IsHourIn state block hour → f hour ≤ most) → block_greatest state block f ≤ most
+  pub block_greatest_bound : (f : ℕ → ℕ) (most : ℕ) → ((hour : ℕ) → IsHourIn state block hour → f hour ≤ most)
+      → block_greatest state block f ≤ most
   block_greatest_bound f most h =
       greatest_bound (λ hour. cond (in_block state block hour) (f hour) 0) most 24
       (inside_or_out f 0 (λ hour n. n ≤ most) h (λ hour. omega arith))

@@ -34,9 +34,11 @@ cut_size true part cut whole p q = omega arith
 cut_size false part cut whole p q = omega arith
 
 module _ (state : State) (sound : Sound state) (prices : DayPrices) (small : SmallPrices prices) where
-  rate_size : (hour day : ℕ) (cover : Cover) → delivery_factor day cover * positive_part (int_max (day_ahead_at state prices hour) (prices.real_time hour)) ≤ 50000000
+  rate_size : (hour day : ℕ) (cover : Cover)
+      → delivery_factor day cover * positive_part (int_max (day_ahead_at state prices hour) (prices.real_time hour)) ≤ 50000000
   rate_size hour day cover =
-      product_le (delivery_factor day cover) (positive_part (int_max (day_ahead_at state prices hour) (prices.real_time hour))) 50 1000000 50000000
+      product_le (delivery_factor day cover)
+      (positive_part (int_max (day_ahead_at state prices hour) (prices.real_time hour))) 50 1000000 50000000
       (factor_size day cover) (charged_price_size state prices small hour) (omega arith)
 
   charge_le : (seller hour buyer : ℕ) → charge state prices seller hour buyer ≤ (hour_at state hour).missed seller buyer * 50000000
@@ -64,7 +66,8 @@ module _ (state : State) (sound : Sound state) (prices : DayPrices) (small : Sma
   module _ (part : Cover → ℕ → ℕ) (is_part : (cover : Cover) (cents : ℕ) → part cover cents ≤ cents) (block : Block) (seller : ℕ) where
     -- by buyer and hour
     abbrev entry : (buyer hour : ℕ) → ℤ
-    entry buyer hour = cond (in_block state block hour) (pos (part ((hour_at state hour).cover seller buyer) (cut_charge state prices seller hour buyer))) (pos 0)
+    entry buyer hour = cond (in_block state block hour)
+        (pos (part ((hour_at state hour).cover seller buyer) (cut_charge state prices seller hour buyer))) (pos 0)
 
     -- a part of what is left of a charge is at most the charge
     entry_le : (buyer hour : ℕ) → nat_abs (entry buyer hour) ≤ charge state prices seller hour buyer
@@ -74,7 +77,8 @@ module _ (state : State) (sound : Sound state) (prices : DayPrices) (small : Sma
         (is_part ((hour_at state hour).cover seller buyer) (cut_charge state prices seller hour buyer)) (omega arith)
 
     pub part_size : (buyer : ℕ) → nat_abs (total_z (entry buyer) 24) ≤ 12000000000000
-    part_size buyer = total_z_bound (entry buyer) 500000000000 24 (λ hour _ _. omega (arith, entry_le buyer hour, charge_size seller hour buyer))
+    part_size buyer =
+        total_z_bound (entry buyer) 500000000000 24 (λ hour _ _. omega (arith, entry_le buyer hour, charge_size seller hour buyer))
 
     pub parts_size : (n : ℕ) → nat_abs (total_z (λ buyer. total_z (entry buyer) 24) n) ≤ 12000000000000
     parts_size n =

@@ -66,7 +66,8 @@ add_four a b c d all n h =
 module _ (state : State) (prices : DayPrices) (meanings : ℕ → Division) (seller : ℕ) where
   -- a buyer's entries in both pages
   entries : (buyer : ℕ) →
-      seller_pays (statement_of state prices meanings Heavy seller buyer) +ℤ seller_pays (statement_of state prices meanings Light seller buyer)
+      seller_pays (statement_of state prices meanings Heavy seller buyer)
+      +ℤ seller_pays (statement_of state prices meanings Light seller buyer)
       ≡ pos (total (λ hour. cut_charge state prices seller hour buyer) hours_of_day)
   entries buyer =
       add_four (page Heavy pool) (page Heavy other) (page Light pool) (page Light other) (λ hour. pos (charged hour)) hours_of_day
@@ -86,7 +87,8 @@ module _ (state : State) (prices : DayPrices) (meanings : ℕ → Division) (sel
       page block f hour = cond (in_block state block hour) (f hour) (pos 0)
 
   -- the statement takes from a seller what the day charges it
-  pub statement_charges : of_seller state.set_up.parties (statement_of state prices meanings) seller_pays seller ≡ pos (day_charges state prices seller)
+  pub statement_charges : of_seller state.set_up.parties (statement_of state prices meanings) seller_pays seller
+      ≡ pos (day_charges state prices seller)
   unfolding day_charges
   statement_charges =
       let parties = state.set_up.parties in
@@ -115,11 +117,13 @@ done_counted seller state _ statements c = c
 
 -- granted or denied, the state and the statements of the year keep together
 tell_counted : (seller : ℕ) (a : Answer) (new old : State) (made kept before : List Statement) →
-    Counted seller new (made ++ kept) → Counted seller old before → Counted seller (if_granted a new old) (if_granted a made [] ++ if_granted a kept before)
+    Counted seller new (made ++ kept) → Counted seller old before
+    → Counted seller (if_granted a new old) (if_granted a made [] ++ if_granted a kept before)
 tell_counted seller granted new old made kept before n o = n
 tell_counted seller (denied number first second) new old made kept before n o = o
 
-tallied_counted : (seller : ℕ) (set_up : SetUp) (events : List Event) → Counted seller (tallied set_up events).state (tallied set_up events).of_year
+tallied_counted : (seller : ℕ) (set_up : SetUp) (events : List Event)
+    → Counted seller (tallied set_up events).state (tallied set_up events).of_year
 tallied_counted seller set_up [] = refl
 tallied_counted seller set_up (event ∷ events) =
     let tally = tallied set_up events in

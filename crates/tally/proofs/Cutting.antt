@@ -20,7 +20,8 @@ cut_hour c room past (suc n) = omega (arith, total_more c n, total_more (cut_to 
 -- hour after hour
 cut_hours : (c : ℕ → ℕ → ℕ) (room n m : ℕ) →
     total (λ h. total (cut_to (c h) room (before (λ e. total (c e) n) h)) n) m ≡ min room (total (λ h. total (c h) n) m)
-cut_hours c room n zero = omega (arith, total_none (λ h. total (c h) n), total_none (λ h. total (cut_to (c h) room (before (λ e. total (c e) n) h)) n))
+cut_hours c room n zero =
+    omega (arith, total_none (λ h. total (c h) n), total_none (λ h. total (cut_to (c h) room (before (λ e. total (c e) n) h)) n))
 cut_hours c room n (suc m) =
     omega (
       arith,
@@ -52,7 +53,8 @@ module _ (state : State) (prices : DayPrices) (seller : ℕ) where
       ≡ min (allowance state seller) (past + before (charge state prices seller hour) buyer)
   unfolding cut_charge
   cut_before_buyer past hour zero e = omega arith
-  cut_before_buyer past hour (suc k) e = rw e (cut_hour (charge state prices seller hour) (allowance state seller) (before (λ earlier. total (charge state prices seller earlier) state.set_up.parties) hour) k)
+  cut_before_buyer past hour (suc k) e = rw e (cut_hour (charge state prices seller hour) (allowance state seller)
+      (before (λ earlier. total (charge state prices seller earlier) state.set_up.parties) hour) k)
 
   cut : (hour buyer : ℕ) → cut_charge state prices seller hour buyer
       ≡ min (charge state prices seller hour buyer) (allowance state seller - earlier_charges state prices seller hour buyer)

@@ -9,6 +9,7 @@ worked_day = record {
   held_prices = refl;
   block_prices = refl;
   no_prices = refl;
+  no_hour = refl;
   other_day = refl;
   holdback_paid = refl;
   energy_paid = refl;

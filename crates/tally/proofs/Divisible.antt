@@ -1,10 +1,11 @@
--- What is handed to a rule lies within its limits, so that of its refusals only that for too many claims comes out of a call. Assumes nothing.
+-- What is handed to a rule lies within its limits, so that of its refusals only 73 comes out of a call. Assumes nothing.
 use Rattle.std.proofs.Common.{◌≡◌, ℕ, ◌+◌, ◌-◌, ◌<◌, ◌≤◌, Bool, true, false, cond, refl, arith}
 use Rattle.std.proofs.lemmas.Bool.{leb-true}
 use Rattle.std.proofs.lemmas.Bool.Decides.{nat_tests}
 use Rattle.tariff.specs.Answers.{granted}
 use Rattle.tariff.specs.declared.blocks.Block.{Block}
-use Rattle.tally.specs.Allotment.{counted_offer, surplus, requested, offered, spare, offers_suffice, supply_answer, allot_total, allot_claims}
+use Rattle.tally.specs.Allotment.{counted_offer, surplus, requested, offered, spare}
+use Rattle.tally.specs.Allotment.{offers_suffice, supply_answer, allot_total, allot_claims}
 use Rattle.tally.specs.DayPrices.{DayPrices}
 use Rattle.tally.specs.Hours.{Hour}
 use Rattle.tally.specs.MakeWhole.{make_whole_claims}
@@ -45,7 +46,8 @@ module _ (n number : ℕ) (hour : Hour) (sound : SoundHour n hour) (few : n ≤ 
       supplied = grind (arith, nat_tests)
 
       by : (b : Bool) → offers_suffice n hour ≡ b
-          → Handed (cond b (requested n hour) (requested n hour - offered n hour)) (cond b (listed (counted_offer hour) n) (listed (surplus hour) n)) n
+          → Handed (cond b (requested n hour) (requested n hour - offered n hour))
+          (cond b (listed (counted_offer hour) n) (listed (surplus hour) n)) n
       by true e =
           divided (counted_offer hour) n (requested n hour) few (omega (arith, requested_size)) (leb-true _ _ e)
           (λ k. let s = counted_size n hour sound k in omega arith)
@@ -53,7 +55,8 @@ module _ (n number : ℕ) (hour : Hour) (sound : SoundHour n hour) (few : n ≤ 
           divided (surplus hour) n (requested n hour - offered n hour) few (omega (arith, requested_size)) (omega (arith, supplied))
           (λ k. let s = surplus_size n hour sound k in omega arith)
 
-  deploy_divided : hour.allotted ≡ true → (buyer mw : ℕ) → 0 < buyer → buyer ≤ n → mw ≤ hour.requests buyer → Handed mw (pairs_of n hour buyer) n
+  deploy_divided : hour.allotted ≡ true → (buyer mw : ℕ) → 0 < buyer → buyer ≤ n → mw ≤ hour.requests buyer
+      → Handed mw (pairs_of n hour buyer) n
   deploy_divided is buyer mw is_buyer known within =
       divided (λ s. pair hour s buyer) n mw few (let s = (sound.requests buyer).0 in omega arith)
       (omega (arith, buyers_filled hour n (sound.sums is) buyer is_buyer known))
@@ -70,10 +73,12 @@ module _ (n number : ℕ) (hour : Hour) (sound : SoundHour n hour) (few : n ≤ 
 pairs_meet : (state : State) → Sound state → (hour seller : ℕ) → IsParty state seller
     → total (pair (hour_at state hour) seller) state.set_up.parties ≡ (hour_at state hour).holdings seller
 pairs_meet state sound hour seller (is_seller, known) =
-    pairs_meet_holdings state.set_up.parties hour (hour_at state hour) (sound.hours hour) (few_parties state.set_up sound.proper) seller is_seller known
+    pairs_meet_holdings state.set_up.parties hour (hour_at state hour) (sound.hours hour)
+    (few_parties state.set_up sound.proper) seller is_seller known
 
 -- what a seller lacks, at any small prices
-pub make_wholes_at : (state : State) → Sound state → (prices : DayPrices) → SmallPrices prices → (block : Block) (seller : ℕ) → IsParty state seller
+pub make_wholes_at : (state : State) → Sound state → (prices : DayPrices) → SmallPrices prices → (block : Block) (seller : ℕ)
+    → IsParty state seller
     → Handed (make_whole state prices block seller) (make_whole_claims state block seller) state.set_up.parties
 make_wholes_at state sound = make_wholes_handed state sound (pairs_meet state sound)
 
@@ -82,7 +87,8 @@ hands_over state sound =
     let few = few_parties state.set_up sound.proper in
     record {
       allots = λ hour. allot_divided state.set_up.parties hour (hour_at state hour) (sound.hours hour) few;
-      deployments = λ hour buyer mw (is_buyer, known) is. deploy_divided state.set_up.parties hour (hour_at state hour) (sound.hours hour) few is buyer mw is_buyer known;
+      deployments = λ hour buyer mw (is_buyer, known) is. deploy_divided state.set_up.parties hour (hour_at state hour)
+          (sound.hours hour) few is buyer mw is_buyer known;
       make_wholes = make_wholes_divisible state sound (pairs_meet state sound);
     }
 

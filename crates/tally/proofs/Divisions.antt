@@ -1,5 +1,6 @@
 -- What a close hands to a rule lies within the limits of a division, and has a claim where there is something to divide. Assumes nothing.
-use Rattle.std.proofs.Common.{◌≡◌, ℕ, suc, ◌<◌, ◌≤◌, true, leb, ◌⊎◌, List, [], ◌∷◌, length, get_or, pos, ◌+ℤ◌, sum, refl, ap₂, inl, inr, ⊎_elim, arith}
+use Rattle.std.proofs.Common.{◌≡◌, ℕ, suc, ◌<◌, ◌≤◌, true, leb, ◌⊎◌, List, [], ◌∷◌, length, get_or}
+use Rattle.std.proofs.Common.{pos, ◌+ℤ◌, sum, refl, ap₂, inl, inr, ⊎_elim, arith}
 use lib.IntN.{zero-*ℤ}
 use Rattle.std.proofs.lemmas.Bool.{and_from, cases_lt, le-leb}
 use Rattle.std.proofs.lemmas.Bool.Decides.{nat_tests}
@@ -28,11 +29,13 @@ use Rattle.tally.proofs.Sound.{Sound}
 abbrev pub count_answer : ℕ → List ℕ → Answer
 count_answer most claims = require (leb (above_zero claims) most) (TooManyClaims (above_zero claims) most)
 
-pub only_counted : (total : ℕ) (claims : List ℕ) (places most : ℕ) → Handed total claims places → division_answer most total claims places ≡ count_answer most claims
+pub only_counted : (total : ℕ) (claims : List ℕ) (places most : ℕ) → Handed total claims places
+    → division_answer most total claims places ≡ count_answer most claims
 only_counted total claims places most handed =
     by (cases_lt 0 total) handed.equal handed.few handed.small handed.within handed.claimed
   where
-    by : (0 < total) ⊎ (total ≤ 0) → length claims ≡ places → places ≤ 12 → total ≤ 1000000000000 → all_within claims ≡ true → (0 < total → 0 < sum claims)
+    by : (0 < total) ⊎ (total ≤ 0) → length claims ≡ places → places ≤ 12 → total ≤ 1000000000000 → all_within claims ≡ true
+        → (0 < total → 0 < sum claims)
         → division_answer most total claims places ≡ count_answer most claims
     by (inl l) e few small within claimed = let h = claimed l in grind (arith, nat_tests)
     by (inr l) e few small within claimed = let z : total ≡ 0 = omega arith in grind (arith, nat_tests)
@@ -78,7 +81,8 @@ module _ (state : State) (sound : Sound state) (block : Block) (seller : ℕ) wh
         (block_zero state block _ (λ hour i. rw (pair_none hour i buyer l m) (zero-*ℤ (prices_of state prices hour).holdback)))
         (block_zero state block _ (λ hour i. rw (delivered_none hour i buyer l m) (zero-*ℤ (prices_of state prices hour).energy))))
 
-    module _ (meets : (hour : ℕ) → total (pair (hour_at state hour) seller) state.set_up.parties ≡ (hour_at state hour).holdings seller) where
+    module _ (meets : (hour : ℕ)
+        → total (pair (hour_at state hour) seller) state.set_up.parties ≡ (hour_at state hour).holdings seller) where
       largest_holding_none : largest_holding state block seller ≡ 0
       unfolding largest_holding
       largest_holding_none =
@@ -97,7 +101,8 @@ module _ (state : State) (sound : Sound state) (block : Block) (seller : ℕ) wh
 
 -- at any small prices
 pub make_wholes_handed : (state : State) → Sound state
-    → ((hour seller : ℕ) → IsParty state seller → total (pair (hour_at state hour) seller) state.set_up.parties ≡ (hour_at state hour).holdings seller)
+    → ((hour seller : ℕ) → IsParty state seller
+    → total (pair (hour_at state hour) seller) state.set_up.parties ≡ (hour_at state hour).holdings seller)
     → (prices : DayPrices) → SmallPrices prices → (block : Block) (seller : ℕ) → IsParty state seller
     → Handed (make_whole state prices block seller) (make_whole_claims state block seller) state.set_up.parties
 make_wholes_handed state sound meets prices small block seller party = record {
@@ -116,7 +121,8 @@ make_wholes_handed state sound meets prices small block seller party = record {
 }
 
 pub make_wholes_divisible : (state : State) → Sound state
-    → ((hour seller : ℕ) → IsParty state seller → total (pair (hour_at state hour) seller) state.set_up.parties ≡ (hour_at state hour).holdings seller)
+    → ((hour seller : ℕ) → IsParty state seller
+    → total (pair (hour_at state hour) seller) state.set_up.parties ≡ (hour_at state hour).holdings seller)
     → (tables : Tables) → Limited tables → (block : Block) (seller : ℕ) → IsParty state seller
     → Handed (make_whole state (needed_prices state tables) block seller) (make_whole_claims state block seller) state.set_up.parties
 make_wholes_divisible state sound meets tables limited =

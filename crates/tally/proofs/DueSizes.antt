@@ -21,7 +21,8 @@ use Rattle.tally.proofs.Sound.{Sound, sound}
 abbrev Room : State → List Statement → Type 0
 Room state statements =
     (account : ℕ) → account ≤ state.set_up.parties
-    → nat_abs (due state.set_up.parties statements account) + cond state.day.is_open 1000000000000000 0 ≤ state.day.number * 1000000000000000
+    → nat_abs (due state.set_up.parties statements account) + cond state.day.is_open 1000000000000000 0
+    ≤ state.day.number * 1000000000000000
 
 -- a day opened, closed and voided
 opens : (is_open : Bool) (owed old new : ℕ) → is_open ≡ false → old + 1 ≤ new
@@ -51,7 +52,8 @@ done_room state (close_day tables most meanings heavy_page light_page) statement
     let statement = statement_of state (needed_prices state tables) meanings in
     λ account l. closes state.day.is_open (net state.set_up.parties statement account) (due state.set_up.parties statements account) _
     (close_found state tables most meanings heavy_page light_page ok).is_open
-    (net_size state (few_parties state.set_up s.proper) statement (statement_sized state s tables most meanings heavy_page light_page lawful ok) account l)
+    (net_size state (few_parties state.set_up s.proper) statement
+    (statement_sized state s tables most meanings heavy_page light_page lawful ok) account l)
     (room account l)
 done_room state void_day statements s lawful ok room = λ account l. voids state.day.is_open _ _ (room account l)
 done_room state _ statements s lawful ok room = room

@@ -12,5 +12,6 @@ use Rattle.tally.specs.Years.{day_charges}
 
 -- a proof that unfolds this unfolds all of them
 unfoldable pub figures : Type 1
-unfolding in_order allotment ceiling_of missed_at is_failure_day charge cut_charge is_held_in prices_of largest_pair make_whole_share total total_z greatest pair largest_holding holdback energy revenue declined_credit idle_credit paid_to taken_from day_charges
+unfolding in_order allotment ceiling_of missed_at is_failure_day charge cut_charge is_held_in prices_of largest_pair make_whole_share
+    total total_z greatest pair largest_holding holdback energy revenue declined_credit idle_credit paid_to taken_from day_charges
 figures = Type 0

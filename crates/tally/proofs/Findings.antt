@@ -8,7 +8,8 @@ use Rattle.tariff.specs.Figures.{between}
 use Rattle.tariff.specs.Tables.{Tables}
 use Rattle.tariff.specs.declared.blocks.DayKind.{DayKind}
 use Rattle.tariff.specs.declared.charges.Cover.{Cover}
-use Rattle.tariff.specs.declared.refusal.Refusal.TheVariants.{PageSize, DayOpen, NoDayOpen, Day, Month, Party, Figure, HourAllotted, HourNotAllotted, AboveRequest, AboveDeployment}
+use Rattle.tariff.specs.declared.refusal.Refusal.TheVariants.{PageSize, DayOpen, NoDayOpen, Day, Month, Party, Figure}
+use Rattle.tariff.specs.declared.refusal.Refusal.TheVariants.{HourAllotted, HourNotAllotted, AboveRequest, AboveDeployment}
 use Rattle.tally.specs.Allotment.{allot_answer}
 use Rattle.tally.specs.DayPrices.{needed_prices, needed_quotes_answer}
 use Rattle.tally.specs.Denials.{most_mw, answer, day_is_open, no_day_is_open, is_hour_at, is_party_at, is_figure_at, is_result_at, is_page}
@@ -82,7 +83,8 @@ module _ (state : State) where
     pub within : nat_abs mw ≤ served (hour_named state hour) (nat_abs buyer)
     pub divided : deploy_answer state.set_up.parties (hour_named state hour) most (nat_abs buyer) (nat_abs mw) ≡ granted
 
-  pub deploy_found : (hour buyer mw : ℤ) (most : ℕ) (meaning : Division) → answer state (deploy hour buyer mw most meaning) ≡ granted → Deployment hour buyer mw most
+  pub deploy_found : (hour buyer mw : ℤ) (most : ℕ) (meaning : Division) → answer state (deploy hour buyer mw most meaning) ≡ granted
+      → Deployment hour buyer mw most
   deploy_found hour buyer mw most meaning ok =
       let third = then_next (is_hour_at state 1 hour) _ (then_next (day_is_open state) _ ok) in
       let fifth = then_next (is_figure_at state 3 mw) _ (then_next (is_party_at state 2 buyer) _ third) in
@@ -90,7 +92,8 @@ module _ (state : State) where
       record {
         allotted = passed _ (HourNotAllotted (nat_abs hour)) (then_first (is_allotted state hour) _ fifth);
         known = named 2 buyer (then_first (is_party_at state 2 buyer) _ third);
-        within = leb-true _ _ (passed _ (AboveRequest (nat_abs hour) (nat_abs buyer)) (then_first (is_within_served state hour buyer mw) _ sixth));
+        within = leb-true _ _
+            (passed _ (AboveRequest (nat_abs hour) (nat_abs buyer)) (then_first (is_within_served state hour buyer mw) _ sixth));
         divided = then_next (is_within_served state hour buyer mw) _ sixth;
       }
 
@@ -98,7 +101,8 @@ module _ (state : State) where
     pub allotted : (hour_named state hour).allotted ≡ true
     pub within : nat_abs mwh ≤ (hour_named state hour).deployed (nat_abs seller) (nat_abs buyer)
 
-  pub miss_found : (hour seller buyer mwh : ℤ) (cover : Cover) → answer state (enter_miss hour seller buyer mwh cover) ≡ granted → Miss hour seller buyer mwh
+  pub miss_found : (hour seller buyer mwh : ℤ) (cover : Cover) → answer state (enter_miss hour seller buyer mwh cover) ≡ granted
+      → Miss hour seller buyer mwh
   miss_found hour seller buyer mwh cover ok =
       let fourth = then_next (is_party_at state 2 seller) _ (then_next (is_hour_at state 1 hour) _ (then_next (day_is_open state) _ ok)) in
       let sixth = then_next (is_figure_at state 4 mwh) _ (then_next (is_party_at state 3 buyer) _ fourth) in

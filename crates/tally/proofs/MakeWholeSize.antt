@@ -1,12 +1,14 @@
 -- A make-whole is at most 960,000,000,000 cents. Assumes nothing.
-use Rattle.std.proofs.Common.{◌≡◌, ℕ, zero, suc, ◌+◌, ◌*◌, ◌≤◌, Bool, true, false, cond, ltb, ℤ, pos, negsuc, ◌+ℤ◌, ◌-ℤ◌, ◌*ℤ◌, neg_ℤ, nat_abs, ◌≤ℤ◌, sym, add-mul, zero-mul, arith}
+use Rattle.std.proofs.Common.{◌≡◌, ℕ, zero, suc, ◌+◌, ◌*◌, ◌≤◌, Bool, true, false, cond, ltb, ℤ, pos, negsuc}
+use Rattle.std.proofs.Common.{◌+ℤ◌, ◌-ℤ◌, ◌*ℤ◌, neg_ℤ, nat_abs, ◌≤ℤ◌, sym, add-mul, zero-mul, arith}
 use Rattle.std.proofs.lemmas.Int.{ints}
 use Rattle.tariff.specs.declared.blocks.Block.{Block}
 use Rattle.tally.proofs.Products.{abs_mul, product_le}
 use Rattle.tally.specs.DayPrices.{DayPrices, in_block, prices_of}
 use Rattle.tally.specs.Numbered.{total, positive_part}
 use Rattle.tally.specs.Pairs.{pair, delivered, declined}
-use Rattle.tally.specs.Settlement.{largest_holding, holdback, energy, settlement, revenue, declined_credit, idle_credit, credits, make_whole}
+use Rattle.tally.specs.Settlement.{largest_holding, holdback, energy, settlement, revenue}
+use Rattle.tally.specs.Settlement.{declined_credit, idle_credit, credits, make_whole}
 use Rattle.tally.specs.States.{State, hour_at}
 use Rattle.tally.proofs.BlockHours.{total_z_low, block_size, block_low, block_greatest_bound}
 use Rattle.tally.proofs.Numbering.{total_none, total_more, total_add, total_swap, total_bound, total_z_add, total_z_bound}
@@ -76,7 +78,8 @@ module _ (state : State) (sound : Sound state) (block : Block) (seller : ℕ) wh
     unfolding revenue
     revenue_size =
         block_size state block (λ hour. pos (largest_holding state block seller) *ℤ prices.day_ahead block) 10000000000
-        (λ hour i. product_size (largest_holding state block seller) 10000 (prices.day_ahead block) 1000000 largest_holding_size (small.day_ahead block))
+        (λ hour i. product_size (largest_holding state block seller) 10000 (prices.day_ahead block) 1000000 largest_holding_size
+        (small.day_ahead block))
 
     pub credits_size : nat_abs (credits state prices block seller) ≤ 240000000000
     unfolding declined_credit idle_credit
@@ -87,7 +90,8 @@ module _ (state : State) (sound : Sound state) (block : Block) (seller : ℕ) wh
         (product_size (total (declined (hour_at state hour) seller) state.set_up.parties) 10000 (prices_of state prices hour).energy 1000000
         (declines_size state.set_up.parties (hour_at state hour) (sound.hours hour) seller state.set_up.parties)
         (energy_price_size state prices small hour))
-        (product_size (largest_holding state block seller) 10000 (prices.real_time hour) 1000000 largest_holding_size (small.real_time hour))))
+        (product_size (largest_holding state block seller) 10000 (prices.real_time hour) 1000000 largest_holding_size
+        (small.real_time hour))))
       where
         declines : ℕ → ℤ
         declines hour = pos (total (declined (hour_at state hour) seller) state.set_up.parties) *ℤ (prices_of state prices hour).energy
@@ -96,7 +100,8 @@ module _ (state : State) (sound : Sound state) (block : Block) (seller : ℕ) wh
         idles hour = pos (largest_holding state block seller) *ℤ prices.real_time hour
 
         declined_at : ℕ → ℤ
-        declined_at hour = cond (in_block state block hour) (cond (ltb 0 ((hour_at state hour).holdings seller)) (declines hour) (pos 0)) (pos 0)
+        declined_at hour =
+            cond (in_block state block hour) (cond (ltb 0 ((hour_at state hour).holdings seller)) (declines hour) (pos 0)) (pos 0)
 
         idle_at : ℕ → ℤ
         idle_at hour = cond (in_block state block hour) (cond (ltb 0 ((hour_at state hour).holdings seller)) (pos 0) (idles hour)) (pos 0)
@@ -106,7 +111,8 @@ module _ (state : State) (sound : Sound state) (block : Block) (seller : ℕ) wh
     holdback_low buyer =
         block_low state block _ (λ hour. pair (hour_at state hour) seller buyer * 1000000)
         (λ hour i.
-        product_low (pair (hour_at state hour) seller buyer) (pair (hour_at state hour) seller buyer) (prices_of state prices hour).holdback 1000000
+        product_low (pair (hour_at state hour) seller buyer) (pair (hour_at state hour) seller buyer)
+        (prices_of state prices hour).holdback 1000000
         (omega arith) (holdback_price_low state prices small hour))
 
     energy_low : (buyer : ℕ) → pos 0 ≤ℤ (energy state prices block seller buyer +ℤ pos (deepest buyer))
@@ -116,7 +122,8 @@ module _ (state : State) (sound : Sound state) (block : Block) (seller : ℕ) wh
         (λ hour i.
         let h = energy_price_size state prices small hour in
         let d = (sound.hours hour).ordered.deployments seller buyer in
-        product_low (delivered (hour_at state hour) seller buyer) (pair (hour_at state hour) seller buyer) (prices_of state prices hour).energy 1000000
+        product_low (delivered (hour_at state hour) seller buyer) (pair (hour_at state hour) seller buyer)
+        (prices_of state prices hour).energy 1000000
         (omega arith) (omega (arith, ints)))
 
     settlement_low : pos 0 ≤ℤ (settlement state prices block seller +ℤ pos 480000000000)

@@ -44,4 +44,5 @@ deployments_divided_lem set_up events proper lawful hour buyer mw most rule rule
     let pairs = λ (seller : ℕ). pair (hour_named state hour) seller (nat_abs buyer) in
     let found = deploy_found state hour buyer mw most rule ok in
     rw ok (total_same _ _ state.set_up.parties (λ seller _ _. parts state hour buyer mw most rule seller)
-    ∙ shares_total pairs state.set_up.parties (nat_abs mw) _ (accepted most (nat_abs mw) rule pairs state.set_up.parties ruled found.divided))
+    ∙ shares_total pairs state.set_up.parties (nat_abs mw) _
+    (accepted most (nat_abs mw) rule pairs state.set_up.parties ruled found.divided))

@@ -32,7 +32,8 @@ module _ (state : State) (few : state.set_up.parties ≤ 12) (statement : Statem
   abbrev parties : ℕ
   parties = state.set_up.parties
 
-  module _ (figure : Payment → ℤ) (most : ℕ) (small : (p : Payment) → Sized p → nat_abs (figure p) ≤ most) (party : ℕ) (is : IsParty state party) where
+  module _ (figure : Payment → ℤ) (most : ℕ) (small : (p : Payment) → Sized p → nat_abs (figure p) ≤ most) (party : ℕ)
+      (is : IsParty state party) where
     of_seller_size : nat_abs (of_seller parties statement figure party) ≤ 24 * most
     of_seller_size =
         blocks_size (λ block. total_z (λ buyer. figure (statement block party buyer)) parties) most
@@ -48,7 +49,8 @@ module _ (state : State) (few : state.set_up.parties ≤ 12) (statement : Statem
   pool_size : nat_abs (total_z (of_seller parties statement (λ p. p.to_pool)) parties) ≤ 288000000000000
   pool_size =
       twelve_size (of_seller parties statement (λ p. p.to_pool)) 24000000000000 parties few
-      (λ k l m. blocks_size (λ block. total_z (λ buyer. (statement block k buyer).to_pool) parties) 1000000000000 (λ block. sized.pooled block k))
+      (λ k l m.
+      blocks_size (λ block. total_z (λ buyer. (statement block k buyer).to_pool) parties) 1000000000000 (λ block. sized.pooled block k))
 
   pub net_size : (account : ℕ) → account ≤ parties → nat_abs (net parties statement account) ≤ 1000000000000000
   unfolding paid_to taken_from

@@ -1,5 +1,6 @@
 -- Sums of figures by number, the greatest of them, their list. Assumes nothing.
-use Rattle.std.proofs.Common.{◌≡◌, ℕ, zero, suc, ◌+◌, ◌*◌, ◌<◌, ◌≤◌, max, List, [], ◌∷◌, length, get_or, ℤ, pos, ◌+ℤ◌, nat_abs, sum, sym, refl, ap, ◌∙◌, ap₂, ⊎_elim, add-one, arith}
+use Rattle.std.proofs.Common.{◌≡◌, ℕ, zero, suc, ◌+◌, ◌*◌, ◌<◌, ◌≤◌, max, List, [], ◌∷◌, length, get_or, ℤ, pos}
+use Rattle.std.proofs.Common.{◌+ℤ◌, nat_abs, sum, sym, refl, ap, ◌∙◌, ap₂, ⊎_elim, add-one, arith}
 use Rattle.std.proofs.lemmas.List.FromFn.{length-map-range_with_len, get_or-map-range_with_len, sum_by-map-range_with_len_more}
 use Rattle.std.proofs.lemmas.Int.{ints}
 use Rattle.std.proofs.lemmas.List.Sums.{sum_by-cons}
@@ -71,7 +72,8 @@ total_z_more f n = refl
 pub total_z_same : (f g : ℕ → ℤ) (n : ℕ) → ((k : ℕ) → 0 < k → k ≤ n → f k ≡ g k) → total_z f n ≡ total_z g n
 total_z_same f g zero h = total_z_none f ∙ sym (total_z_none g)
 total_z_same f g (suc n) h =
-    total_z_more f n ∙ ap₂ ◌+ℤ◌ (total_z_same f g n (λ k l m. h k l (omega arith))) (h (suc n) (omega arith) (omega arith)) ∙ sym (total_z_more g n)
+    total_z_more f n ∙ ap₂ ◌+ℤ◌ (total_z_same f g n (λ k l m. h k l (omega arith))) (h (suc n) (omega arith) (omega arith))
+    ∙ sym (total_z_more g n)
 
 pub total_z_zero : (f : ℕ → ℤ) (n : ℕ) → ((k : ℕ) → 0 < k → k ≤ n → f k ≡ pos 0) → total_z f n ≡ pos 0
 total_z_zero f zero h = total_z_none f
@@ -91,7 +93,8 @@ pub total_z_swap : (f : ℕ → ℕ → ℤ) (m n : ℕ) → total_z (λ i. tota
 total_z_swap f zero n = total_z_none _ ∙ sym (total_z_zero (λ j. total_z (λ i. f i j) 0) n (λ j _ _. total_z_none (λ i. f i j)))
 total_z_swap f (suc m) n =
     total_z_more (λ i. total_z (f i) n) m ∙ ap (λ s. s +ℤ total_z (f (suc m)) n) (total_z_swap f m n)
-    ∙ sym (total_z_same (λ j. total_z (λ i. f i j) (suc m)) (λ j. total_z (λ i. f i j) m +ℤ f (suc m) j) n (λ j _ _. total_z_more (λ i. f i j) m)
+    ∙ sym (total_z_same (λ j. total_z (λ i. f i j) (suc m)) (λ j. total_z (λ i. f i j) m +ℤ f (suc m) j) n
+    (λ j _ _. total_z_more (λ i. f i j) m)
     ∙ total_z_add (λ j. total_z (λ i. f i j) m) (f (suc m)) n)
 
 pub total_z_pos : (f : ℕ → ℕ) (n : ℕ) → total_z (λ k. pos (f k)) n ≡ pos (total f n)

@@ -31,7 +31,8 @@ module _ (hour : Hour) (parties : ℕ) (met : total hour.holdings parties ≡ to
   pub buyers_filled : (buyer : ℕ) → 0 < buyer → buyer ≤ parties → total (λ seller. pair hour seller buyer) parties ≡ hour.requests buyer
   unfolding pair
   buyers_filled buyer h l =
-      total_same _ (λ s. overlap (before hour.requests buyer) (total hour.requests buyer) (before hour.holdings s) (total hour.holdings s)) parties
+      total_same _ (λ s. overlap (before hour.requests buyer) (total hour.requests buyer) (before hour.holdings s)
+      (total hour.holdings s)) parties
       (λ s _ _. overlap_swap (before hour.holdings s) (total hour.holdings s) (before hour.requests buyer) (total hour.requests buyer))
       ∙ filled hour.holdings hour.requests buyer parties h (omega (arith, met, total_front hour.requests buyer parties l))
 

@@ -39,7 +39,8 @@ pub record Sized (payment : Payment) : Type 0 where
 -- and a close's statement, in which what a seller pays to the pool in a block is so small for all buyers together
 pub record SizedStatement (state : State) (statement : Statement) : Type 0 where
   pub entries : (block : Block) (seller buyer : ℕ) → IsParty state seller → IsParty state buyer → Sized (statement block seller buyer)
-  pub pooled : (block : Block) (seller : ℕ) → nat_abs (total_z (λ buyer. (statement block seller buyer).to_pool) state.set_up.parties) ≤ 12000000000000
+  pub pooled : (block : Block) (seller : ℕ)
+      → nat_abs (total_z (λ buyer. (statement block seller buyer).to_pool) state.set_up.parties) ≤ 12000000000000
 
 pool_part_le : (cover : Cover) (cents : ℕ) → pool_part cover cents ≤ cents
 pool_part_le Covered cents = omega arith
@@ -79,7 +80,8 @@ module _ (state : State) (sound : Sound state) (tables : Tables) (most : ℕ) (m
   share_size : (block : Block) (seller buyer : ℕ) → IsParty state seller → IsParty state buyer
       → make_whole_share state prices meanings block seller buyer ≤ 960000000000
   share_size block seller buyer s b =
-      let shared = sharing_granted state prices most block seller s (close_found state tables most meanings heavy_page light_page ok).shared in
+      let shared =
+      sharing_granted state prices most block seller s (close_found state tables most meanings heavy_page light_page ok).shared in
       omega (
         arith,
         term_le (make_whole_share state prices meanings block seller) buyer state.set_up.parties b.0 b.1,
@@ -116,4 +118,5 @@ pub payments_fit_lem : PaymentsFit
 payments_fit_lem set_up events proper lawful tables most meanings heavy_page light_page lawfully ok block seller buyer s b =
     let state = (tallied set_up events).state in
     fits (statement_of state (needed_prices state tables) meanings block seller buyer)
-    ((statement_sized state (sound set_up events proper lawful) tables most meanings heavy_page light_page lawfully ok).entries block seller buyer s b)
+    ((statement_sized state
+    (sound set_up events proper lawful) tables most meanings heavy_page light_page lawfully ok).entries block seller buyer s b)

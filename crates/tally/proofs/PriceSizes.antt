@@ -1,5 +1,6 @@
 -- The sizes of the prices by which a day is settled. Assumes nothing.
-use Rattle.std.proofs.Common.{ℕ, ◌*◌, ◌≤◌, Bool, true, false, cond, ℤ, pos, ◌+ℤ◌, ◌-ℤ◌, ◌*ℤ◌, nat_abs, ◌≤ℤ◌, Some, None, Option, unwrap_or, refl, arith}
+use Rattle.std.proofs.Common.{ℕ, ◌*◌, ◌≤◌, Bool, true, false, cond, ℤ, pos, ◌+ℤ◌, ◌-ℤ◌, ◌*ℤ◌}
+use Rattle.std.proofs.Common.{nat_abs, ◌≤ℤ◌, Some, None, Option, unwrap_or, refl, arith}
 use Rattle.std.specs.Int.{int_max, int_min}
 use Rattle.std.proofs.lemmas.Int.{ints, clamps}
 use Rattle.tariff.specs.Blocks.{block_of}
@@ -26,7 +27,8 @@ pub record SmallPrices (prices : DayPrices) : Type 0 where
 
 pub needed_small : (state : State) (tables : Tables) → Limited tables → SmallPrices (needed_prices state tables)
 needed_small state tables limited = record {
-  day_ahead = λ block. needed_size (is_held_in state block) (tables.day_ahead state.day.number block) (limited.day_ahead state.day.number block);
+  day_ahead =
+      λ block. needed_size (is_held_in state block) (tables.day_ahead state.day.number block) (limited.day_ahead state.day.number block);
   real_time = λ hour. needed_size (is_priced state hour) (tables.real_time state.day.number hour) (limited.real_time state.day.number hour);
 }
 
@@ -44,7 +46,8 @@ left_size : (whole part : ℤ) → (pos 0 ≤ℤ whole) × (whole ≤ℤ pos 200
 left_size whole part (low, high) h = (omega (arith, ints), omega (arith, ints))
 
 part_of_max_size : (x y : ℤ) → nat_abs x ≤ 1000000 → nat_abs y ≤ 1000000 → positive_part (int_max x y) ≤ 1000000
-part_of_max_size x y h k = let a : nat_abs (int_max x y) ≤ 1000000 = omega (arith, ints, clamps) in omega (arith, positive_size (int_max x y))
+part_of_max_size x y h k = let a : nat_abs (int_max x y) ≤ 1000000 =
+    omega (arith, ints, clamps) in omega (arith, positive_size (int_max x y))
 
 module _ (state : State) (prices : DayPrices) (small : SmallPrices prices) (hour : ℕ) where
   pub energy_price_size : nat_abs (prices_of state prices hour).energy ≤ 1000000
@@ -53,7 +56,8 @@ module _ (state : State) (prices : DayPrices) (small : SmallPrices prices) (hour
       energy_size initial_terms (total_price initial_terms (day_ahead_at state prices hour) (prices.factor hour)) (prices.real_time hour)
       (total_price_size initial_terms (day_ahead_at state prices hour) (prices.factor hour)).0 (small.real_time hour)
 
-  holdback_price_sizes : (nat_abs (prices_of state prices hour).holdback ≤ 1200000) × (pos 0 ≤ℤ ((prices_of state prices hour).holdback +ℤ pos 1000000))
+  holdback_price_sizes : (nat_abs (prices_of state prices hour).holdback ≤ 1200000)
+      × (pos 0 ≤ℤ ((prices_of state prices hour).holdback +ℤ pos 1000000))
   unfolding prices_of
   holdback_price_sizes =
       left_size (prices_of state prices hour).total (prices_of state prices hour).energy
@@ -68,4 +72,5 @@ module _ (state : State) (prices : DayPrices) (small : SmallPrices prices) (hour
   -- what a missed MWh is charged by, before the factor
   pub charged_price_size : positive_part (int_max (day_ahead_at state prices hour) (prices.real_time hour)) ≤ 1000000
   charged_price_size =
-      part_of_max_size (day_ahead_at state prices hour) (prices.real_time hour) (small.day_ahead (block_of state.day.kind hour)) (small.real_time hour)
+      part_of_max_size (day_ahead_at state prices hour) (prices.real_time hour) (small.day_ahead (block_of state.day.kind hour))
+      (small.real_time hour)

@@ -1,5 +1,6 @@
 -- Which numbers calls are denied by: of those from 70 on, only 73, with the count of claims and the limit. Assumes nothing.
-use Rattle.std.proofs.Common.{◌≡◌, ℕ, zero, suc, ◌<◌, ◌≤◌, Bool, true, false, cond, not, eqb, leb, List, ℤ, nat_abs, refl, ap, subst, sym, arith}
+use Rattle.std.proofs.Common.{◌≡◌, ℕ, zero, suc, ◌<◌, ◌≤◌, Bool, true, false, cond, not, eqb}
+use Rattle.std.proofs.Common.{leb, List, ℤ, nat_abs, refl, ap, subst, sym, arith}
 use Rattle.std.proofs.lemmas.Bool.{leb-true, leb-false}
 use Rattle.tariff.specs.Answers.{Answer, granted, denied, ◌then◌, in_order}
 use Rattle.tariff.specs.Blocks.{hours_of_day}
@@ -11,9 +12,11 @@ use Rattle.tariff.specs.declared.blocks.Block.TheVariants.{Heavy, Light}
 use Rattle.tariff.specs.declared.refusal.Refusal.TheVariants.{HourNotAllotted, AboveRequest}
 use Rattle.tally.specs.Allotment.{supply_answer}
 use Rattle.tally.specs.DayPrices.{needed_prices, needed_quotes_answer}
-use Rattle.tally.specs.Denials.{answer, most_mw, page_entries, day_is_open, no_day_is_open, is_hour_at, is_party_at, is_figure_at, is_unallotted}
+use Rattle.tally.specs.Denials.{answer, most_mw, page_entries, day_is_open, no_day_is_open}
+use Rattle.tally.specs.Denials.{is_hour_at, is_party_at, is_figure_at, is_unallotted}
 use Rattle.tally.specs.Denials.{is_allotted, is_within_served, is_page}
-use Rattle.tally.specs.Events.{Event, open_day, enter_result, enter_offer, enter_request, allot_hour, deploy, enter_miss, close_day, void_day, start_year, Lawfully}
+use Rattle.tally.specs.Events.{Event, open_day, enter_result, enter_offer, enter_request, allot_hour}
+use Rattle.tally.specs.Events.{deploy, enter_miss, close_day, void_day, start_year, Lawfully}
 use Rattle.tally.specs.MakeWhole.{sharing_answer}
 use Rattle.tally.specs.RuleLaws.{Handed, HandsOver, TooMany, most_of}
 use Rattle.tally.specs.Settlement.{make_whole}
@@ -70,8 +73,10 @@ in_order_late f (suc n) h =
     then_late (in_order f n) (f (suc n)) (in_order_late f n (λ k l m. h k l (omega arith))) (λ _. h (suc n) (omega arith) (omega arith))
 
 -- a division of what is within its limits, where there is one
-division_late : (most total : ℕ) (claims : List ℕ) (places : ℕ) → Handed total claims places → Late most (division_answer most total claims places)
-division_late most total claims places handed = subst (Late most) (sym (only_counted total claims places most handed)) (last most (above_zero claims))
+division_late : (most total : ℕ) (claims : List ℕ) (places : ℕ) → Handed total claims places
+    → Late most (division_answer most total claims places)
+division_late most total claims places handed =
+    subst (Late most) (sym (only_counted total claims places most handed)) (last most (above_zero claims))
 
 if_divided : {most : ℕ} → (none : Bool) (a : Answer) → Late most a → Late most (cond none granted a)
 if_divided true a h = granted_late
@@ -110,7 +115,8 @@ module _ (state : State) where
 
   module _ (ok : HandsOver state) where
     quotes_late : {most : ℕ} → (tables : Tables) (hour : ℕ) → Late most (needed_quotes_answer state tables hour)
-    quotes_late tables hour = both_late _ _ (early _ 66 hour 1 (omega arith)) (both_late _ _ (early _ 66 hour 2 (omega arith)) (early _ 66 hour 3 (omega arith)))
+    quotes_late tables hour =
+        both_late _ _ (early _ 66 hour 1 (omega arith)) (both_late _ _ (early _ 66 hour 2 (omega arith)) (early _ 66 hour 3 (omega arith)))
 
     sharing_late : (tables : Tables) → Limited tables → (most : ℕ) (block : Block) (seller : ℕ) → 0 < seller → seller ≤ state.set_up.parties
         → Late most (sharing_answer state (needed_prices state tables) most block seller)
@@ -147,7 +153,9 @@ module _ (state : State) where
         both_late _ _ (page_late heavy_page) (both_late _ _ (page_late light_page) (both_late _ _ day_late
         (both_late _ _ (in_order_late (needed_quotes_answer state tables) hours_of_day (λ hour _ _. quotes_late tables hour))
         (both_late _ _
-        (in_order_late (sharing_answer state (needed_prices state tables) most Heavy) state.set_up.parties (sharing_late tables lawful.0 most Heavy))
-        (in_order_late (sharing_answer state (needed_prices state tables) most Light) state.set_up.parties (sharing_late tables lawful.0 most Light))))))
+        (in_order_late (sharing_answer state (needed_prices state tables) most Heavy) state.set_up.parties
+        (sharing_late tables lawful.0 most Heavy))
+        (in_order_late (sharing_answer state (needed_prices state tables) most Light) state.set_up.parties
+        (sharing_late tables lawful.0 most Light))))))
     answers_late void_day lawful = day_late
     answers_late start_year lawful = no_day_late

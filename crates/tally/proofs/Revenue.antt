@@ -1,5 +1,6 @@
 -- What a seller's buyers pay, with its credits, reaches its block sale revenue. Assumes nothing.
-use Rattle.std.proofs.Common.{◌≡◌, ℕ, ◌<◌, Bool, true, false, cond, eqb, ℤ, pos, negsuc, ◌+ℤ◌, ◌-ℤ◌, ◌*ℤ◌, ◌≤ℤ◌, ◌<ℤ◌, sym, refl, ap, ◌∙◌, subst, ap₂, arith}
+use Rattle.std.proofs.Common.{◌≡◌, ℕ, ◌<◌, Bool, true, false, cond, eqb, ℤ, pos, negsuc, ◌+ℤ◌, ◌-ℤ◌}
+use Rattle.std.proofs.Common.{◌*ℤ◌, ◌≤ℤ◌, ◌<ℤ◌, sym, refl, ap, ◌∙◌, subst, ap₂, arith}
 use lib.IntN.{zero-*ℤ}
 use Rattle.std.proofs.lemmas.Int.{ints}
 use Rattle.std.proofs.lemmas.Bool.{eqb-true}
@@ -11,7 +12,8 @@ use Rattle.tally.specs.DayPrices.{DayPrices, needed_prices}
 use Rattle.tally.specs.RevenueLaws.{RevenueReached, Reached, buyers_pay}
 use Rattle.tally.specs.MakeWhole.{make_whole_share, largest_pair, sharing_answer, sharings_answer, turn}
 use Rattle.tally.specs.Numbered.{total, listed, numbered, positive_part}
-use Rattle.tally.specs.Settlement.{make_whole, revenue, settlement, credits, declined_credit, idle_credit, largest_holding, holdback, energy}
+use Rattle.tally.specs.Settlement.{make_whole, revenue, settlement, credits, declined_credit}
+use Rattle.tally.specs.Settlement.{idle_credit, largest_holding, holdback, energy}
 use Rattle.tally.specs.States.{State, IsParty, hour_at}
 use Rattle.tally.specs.Statements.{buyer_pays, statement_of}
 use Rattle.tally.specs.Tally.{tallied}
@@ -93,7 +95,8 @@ module _ (state : State) (prices : DayPrices) where
   -- what the buyers pay is the settlement and the make-whole
   module _ (meanings : ℕ → Division) (block : Block) (seller : ℕ)
       (adds : total (make_whole_share state prices meanings block seller) state.set_up.parties ≡ make_whole state prices block seller) where
-    shares_paid : buyers_pay state (statement_of state prices meanings) (λ p. p.make_whole) block seller ≡ pos (make_whole state prices block seller)
+    shares_paid : buyers_pay state (statement_of state prices meanings) (λ p. p.make_whole) block seller
+        ≡ pos (make_whole state prices block seller)
     shares_paid = total_z_pos (make_whole_share state prices meanings block seller) state.set_up.parties ∙ ap pos adds
 
     all_paid : buyers_pay state (statement_of state prices meanings) buyer_pays block seller
@@ -105,7 +108,8 @@ module _ (state : State) (prices : DayPrices) where
 
     reached_where_added : Reached state prices (statement_of state prices meanings) block seller
     reached_where_added = record {
-      reached = rw all_paid (lacking_reaches (revenue state prices block seller) (settlement state prices block seller) (credits state prices block seller));
+      reached = rw all_paid
+          (lacking_reaches (revenue state prices block seller) (settlement state prices block seller) (credits state prices block seller));
       met = λ h. ap (λ z. z +ℤ credits state prices block seller) all_paid
           ∙ lacking_meets (revenue state prices block seller) (settlement state prices block seller) (credits state prices block seller)
           (let p : pos 0 <ℤ pos (make_whole state prices block seller) = subst (λ z. pos 0 <ℤ z) shares_paid h in omega (arith, ints));

@@ -13,7 +13,8 @@ use Rattle.tally.proofs.Granting.{then_first, then_next, passed, within_limits}
 
 module _ (set_up : SetUp) (proper : Proper set_up) where
   pub few_parties : set_up.parties ≤ 12
-  few_parties = (within_limits 2 12 (pos set_up.parties) (passed _ Parties (then_first (require (between 2 12 (pos set_up.parties)) Parties) _ proper))).1
+  few_parties = (within_limits 2 12 (pos set_up.parties)
+      (passed _ Parties (then_first (require (between 2 12 (pos set_up.parties)) Parties) _ proper))).1
 
   pub step_within_full : set_up.step ≤ set_up.full
   step_within_full =

@@ -1,5 +1,6 @@
 -- What a lawful rule's shares keep, by party number. Assumes nothing.
-use Rattle.std.proofs.Common.{◌≡◌, ℕ, zero, suc, ◌+◌, ◌*◌, ◌<◌, ◌≤◌, List, [], ◌∷◌, length, get_or, sum, sym, refl, ◌∙◌, subst, ⊎_elim, mul-le-mul_right, mul_comm, add-mul, lt_of_mul-lt-mul_right, arith}
+use Rattle.std.proofs.Common.{◌≡◌, ℕ, zero, suc, ◌+◌, ◌*◌, ◌<◌, ◌≤◌, List, [], ◌∷◌, length, get_or, sum, sym, refl, ◌∙◌}
+use Rattle.std.proofs.Common.{subst, ⊎_elim, mul-le-mul_right, mul_comm, add-mul, lt_of_mul-lt-mul_right, arith}
 use Rattle.std.proofs.lemmas.Bool.{cases_lt}
 use Rattle.tariff.specs.Answers.{granted}
 use Rattle.tariff.specs.Division.{Division, Lawful, LawfulRule, division_answer, gap}
@@ -45,7 +46,8 @@ module _ (f : ℕ → ℕ) (n t : ℕ) (shares : List ℕ) (lawful : Lawful t (l
       let g = slice_index_listed f n i l in
       let m : i < length (listed f n) = omega (arith, length_listed f n) in
       ⊎_elim
-      (λ (h : 0 < sum (listed f n)). omega (arith, share_le (get_or shares i 0) (get_or (listed f n) i 0) t (sum (listed f n)) (lawful.near h i m) (omega arith)))
+      (λ (h : 0 < sum (listed f n)).
+      omega (arith, share_le (get_or shares i 0) (get_or (listed f n) i 0) t (sum (listed f n)) (lawful.near h i m) (omega arith)))
       (λ (h : sum (listed f n) ≤ 0). omega (arith, lawful.none (omega arith) (omega arith) i m))
       (cases_lt 0 (sum (listed f n)))
 

@@ -17,7 +17,8 @@ use Rattle.tally.proofs.Findings.{open_found, result_found, offer_found, request
 use Rattle.tally.proofs.Granting.{passed}
 use Rattle.tally.proofs.Numbering.{greatest_bound}
 use Rattle.tally.proofs.Sizes.{misses_size}
-use Rattle.tally.proofs.SoundHours.{SoundHour, replaced_has, blank_sound, result_sound, offer_sound, request_sound, allot_sound, deploy_sound, miss_sound}
+use Rattle.tally.proofs.SoundHours.{SoundHour, replaced_has, blank_sound, result_sound, offer_sound}
+use Rattle.tally.proofs.SoundHours.{request_sound, allot_sound, deploy_sound, miss_sound}
 use Rattle.tally.proofs.Steps.{if_granted_has}
 
 pub record Sound (state : State) : Type 0 where
@@ -31,7 +32,8 @@ pub record Sound (state : State) : Type 0 where
   pub month : state.day.is_open ≡ true → (1 ≤ state.year.month) × (state.year.month ≤ 12)
 
 -- one hour changed
-on_hour_lem : (state : State) (hour : ℕ) (change : Hour → Hour) → Sound state → SoundHour state.set_up.parties (change (hour_at state hour)) → Sound (on_hour hour change state)
+on_hour_lem : (state : State) (hour : ℕ) (change : Hour → Hour) → Sound state → SoundHour state.set_up.parties (change (hour_at state hour))
+    → Sound (on_hour hour change state)
 on_hour_lem state hour change sound new = record {
   proper = sound.proper;
   hours = replaced_has (λ h x. SoundHour state.set_up.parties x) state.day.hours hour (change (hour_at state hour)) new sound.hours;
@@ -60,7 +62,8 @@ today_size true old new h k = omega arith
 today_size false old new h k = omega arith
 
 -- what a seller misses in an hour
-pub missed_at_size : (state : State) → ((hour : ℕ) → SoundHour state.set_up.parties (hour_at state hour)) → (seller hour : ℕ) → missed_at state seller hour ≤ 10000
+pub missed_at_size : (state : State) → ((hour : ℕ) → SoundHour state.set_up.parties (hour_at state hour)) → (seller hour : ℕ)
+    → missed_at state seller hour ≤ 10000
 unfolding missed_at
 missed_at_size state sound seller hour = misses_size state.set_up.parties (hour_at state hour) (sound hour) seller state.set_up.parties
 

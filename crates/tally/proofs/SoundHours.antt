@@ -1,11 +1,13 @@
 -- What every hour that calls lead to keeps: the sizes of its figures, and that it is met where it is allotted. Assumes nothing.
-use Rattle.std.proofs.Common.{◌≡◌, ℕ, ◌+◌, ◌-◌, ◌<◌, ◌≤◌, Bool, true, false, cond, eqb, leb, List, ℤ, nat_abs, sym, refl, ap, ◌∙◌, subst, arith}
+use Rattle.std.proofs.Common.{◌≡◌, ℕ, ◌+◌, ◌-◌, ◌<◌, ◌≤◌, Bool, true, false, cond, eqb, leb}
+use Rattle.std.proofs.Common.{List, ℤ, nat_abs, sym, refl, ap, ◌∙◌, subst, arith}
 use Rattle.std.proofs.lemmas.Bool.{both_ways, eqb-true, leb-true, leb-false}
 use Rattle.std.proofs.lemmas.Bool.Decides.{nat_tests}
 use Rattle.tariff.specs.Answers.{granted}
 use Rattle.tariff.specs.Division.{Division, LawfulRule, division_answer}
 use Rattle.tariff.specs.declared.charges.Cover.{Cover}
-use Rattle.tally.specs.Allotment.{counted_offer, surplus, requested, offered, spare, offers_suffice, allot_total, allot_claims, held_whole, allotment, allot_answer, supply_answer}
+use Rattle.tally.specs.Allotment.{counted_offer, surplus, requested, offered, spare, offers_suffice, allot_total}
+use Rattle.tally.specs.Allotment.{allot_claims, held_whole, allotment, allot_answer, supply_answer}
 use Rattle.tally.specs.Hours.{Hour, blank, with_result, with_offer, with_request, with_holdings, with_deployment, with_miss}
 use Rattle.tally.specs.PairLaws.{Ordered}
 use Rattle.tally.specs.Numbered.{total, listed, numbered, replaced}
@@ -30,7 +32,8 @@ pub record SoundHour (parties : ℕ) (hour : Hour) : Type 0 where
   pub ordered : Ordered hour
 
 -- what holds of the new figure and of the old ones holds of all
-pub replaced_has : {A : Type 0} (P : ℕ → A → Type 0) (f : ℕ → A) (k : ℕ) (x : A) → P k x → ((i : ℕ) → P i (f i)) → (i : ℕ) → P i (replaced f k x i)
+pub replaced_has : {A : Type 0} (P : ℕ → A → Type 0) (f : ℕ → A) (k : ℕ) (x : A) → P k x → ((i : ℕ) → P i (f i)) → (i : ℕ)
+    → P i (replaced f k x i)
 replaced_has P f k x new old i = by (eqb i k) refl
   where
     by : (b : Bool) → eqb i k ≡ b → P i (cond b x (f i))
@@ -55,8 +58,10 @@ module _ (n : ℕ) (hour : Hour) (sound : SoundHour n hour) where
     undeployed s b = omega (arith, sound.ordered.deployments s b, pair_within hour s b, sound.unheld unallotted s)
 
     -- so its entries may change
-    entered : (new : Hour) → new.allotted ≡ hour.allotted → new.holdings ≡ hour.holdings → new.deployed ≡ hour.deployed → new.missed ≡ hour.missed
-        → ((p : ℕ) → Entered n p (nat_abs (new.results p))) → ((p : ℕ) → Entered n p (new.offers p)) → ((p : ℕ) → Entered n p (new.requests p))
+    entered : (new : Hour) → new.allotted ≡ hour.allotted → new.holdings ≡ hour.holdings → new.deployed ≡ hour.deployed
+        → new.missed ≡ hour.missed
+        → ((p : ℕ) → Entered n p (nat_abs (new.results p))) → ((p : ℕ) → Entered n p (new.offers p))
+        → ((p : ℕ) → Entered n p (new.requests p))
         → SoundHour n new
     entered new a h d m results offers requests = record {
       results = results;
@@ -89,7 +94,8 @@ module _ (n : ℕ) (hour : Hour) (sound : SoundHour n hour) where
         sound.results sound.offers (replaced_has (Entered n) hour.requests party mw (small, λ l. absurd (omega arith)) sound.requests)
 
 -- what counted offers c and surpluses s are to hold of what is requested
-module _ (c s : ℕ → ℕ) (wanted n most : ℕ) (rule : Division) (lawful : LawfulRule most rule) (supplied : wanted ≤ total c n + total s n) where
+module _ (c s : ℕ → ℕ) (wanted n most : ℕ) (rule : Division) (lawful : LawfulRule most rule)
+    (supplied : wanted ≤ total c n + total s n) where
   abbrev shares : Bool → List ℕ
   shares b = rule (cond b wanted (wanted - total c n)) (cond b (listed c n) (listed s n))
 
@@ -104,14 +110,15 @@ module _ (c s : ℕ → ℕ) (wanted n most : ℕ) (rule : Division) (lawful : L
       total_same (held true) (numbered (shares true)) n (λ p _ _. omega arith)
       ∙ shares_total c n wanted (shares true) (accepted most wanted rule c n lawful ok)
   held_total false e ok =
-      total_add c (numbered (shares false)) n
-      ∙ omega (arith, leb-false wanted (total c n) e, shares_total s n (wanted - total c n) (shares false) (accepted most (wanted - total c n) rule s n lawful ok))
+      let whole = shares_total s n (wanted - total c n) (shares false) (accepted most (wanted - total c n) rule s n lawful ok) in
+      total_add c (numbered (shares false)) n ∙ omega (arith, leb-false wanted (total c n) e, whole)
 
   held_within : (b : Bool) → leb wanted (total c n) ≡ b → Divides b → (p : ℕ) → held b p ≤ c p + s p
   held_within true e ok p =
       omega (arith, shares_within c n wanted (shares true) (accepted most wanted rule c n lawful ok) (leb-true wanted (total c n) e) p)
   held_within false e ok p =
-      omega (arith, shares_within s n (wanted - total c n) (shares false) (accepted most (wanted - total c n) rule s n lawful ok) (omega arith) p)
+      let kept = accepted most (wanted - total c n) rule s n lawful ok in
+      omega (arith, shares_within s n (wanted - total c n) (shares false) kept (omega arith) p)
 
 module _ (n : ℕ) (hour : Hour) (sound : SoundHour n hour) where
   module _ (unallotted : hour.allotted ≡ false) (most number : ℕ) (rule : Division) (lawful : LawfulRule most rule)
@@ -121,25 +128,30 @@ module _ (n : ℕ) (hour : Hour) (sound : SoundHour n hour) where
 
     -- the rule is consulted where anything is requested
     divides : eqb (requested n hour) 0 ≡ false → division_answer most (allot_total n hour) (allot_claims n hour) n ≡ granted
-    divides e = subst (λ b. cond b granted (division_answer most (allot_total n hour) (allot_claims n hour) n) ≡ granted) e (then_next (supply_answer n hour number) _ ok)
+    divides e = subst (λ b. cond b granted (division_answer most (allot_total n hour) (allot_claims n hour) n) ≡ granted) e
+        (then_next (supply_answer n hour number) _ ok)
 
     holdings_total : total (allotment n hour rule) n ≡ requested n hour
     unfolding allotment
     holdings_total = by (eqb (requested n hour) 0) refl
       where
         by : (b : Bool) → eqb (requested n hour) 0 ≡ b
-            → total (λ p. cond b 0 (held_whole n hour p + numbered (rule (allot_total n hour) (allot_claims n hour)) p)) n ≡ requested n hour
+            → total (λ p. cond b 0 (held_whole n hour p + numbered (rule (allot_total n hour) (allot_claims n hour)) p)) n
+            ≡ requested n hour
         by true e = total_zero _ n (λ _ _ _. refl) ∙ sym (eqb-true _ _ e)
-        by false e = held_total (counted_offer hour) (surplus hour) (requested n hour) n most rule lawful supplied (offers_suffice n hour) refl (divides e)
+        by false e = held_total (counted_offer hour) (surplus hour) (requested n hour) n most rule lawful supplied
+            (offers_suffice n hour) refl (divides e)
 
     holdings_within : (p : ℕ) → allotment n hour rule p ≤ counted_offer hour p + surplus hour p
     unfolding allotment
     holdings_within p = by (eqb (requested n hour) 0) refl
       where
         by : (b : Bool) → eqb (requested n hour) 0 ≡ b
-            → cond b 0 (held_whole n hour p + numbered (rule (allot_total n hour) (allot_claims n hour)) p) ≤ counted_offer hour p + surplus hour p
+            → cond b 0 (held_whole n hour p + numbered (rule (allot_total n hour) (allot_claims n hour)) p)
+            ≤ counted_offer hour p + surplus hour p
         by true e = omega arith
-        by false e = held_within (counted_offer hour) (surplus hour) (requested n hour) n most rule lawful supplied (offers_suffice n hour) refl (divides e) p
+        by false e = held_within (counted_offer hour) (surplus hour) (requested n hour) n most rule lawful supplied
+            (offers_suffice n hour) refl (divides e) p
 
     pub allot_sound : SoundHour n (with_holdings (allotment n hour rule) hour)
     allot_sound = record {
@@ -164,7 +176,8 @@ module _ (n : ℕ) (hour : Hour) (sound : SoundHour n hour) where
 
       part_within : (seller : ℕ) → parts seller ≤ pair hour seller buyer
       part_within =
-          shares_within (λ s. pair hour s buyer) n mw (rule mw (pairs_of n hour buyer)) (accepted most mw rule (λ s. pair hour s buyer) n lawful ok)
+          shares_within (λ s. pair hour s buyer) n mw (rule mw (pairs_of n hour buyer))
+          (accepted most mw rule (λ s. pair hour s buyer) n lawful ok)
           (omega (arith, buyers_filled hour n (sound.sums is_allotted) buyer is_buyer known))
 
       pub deploy_sound : SoundHour n (with_deployment buyer parts hour)
@@ -177,7 +190,8 @@ module _ (n : ℕ) (hour : Hour) (sound : SoundHour n hour) where
         sums = sound.sums;
         within = sound.within;
         ordered = record {
-          deployments = λ s. replaced_has (λ b x. x ≤ pair hour s b) (hour.deployed s) buyer (parts s) (part_within s) (sound.ordered.deployments s);
+          deployments =
+              λ s. replaced_has (λ b x. x ≤ pair hour s b) (hour.deployed s) buyer (parts s) (part_within s) (sound.ordered.deployments s);
           misses = λ s b. cleared (eqb b buyer) (hour.missed s b) (parts s) (hour.deployed s b) (sound.ordered.misses s b);
         };
       }
@@ -186,7 +200,8 @@ module _ (n : ℕ) (hour : Hour) (sound : SoundHour n hour) where
           cleared true x y z h = omega arith
           cleared false x y z h = h
 
-    pub miss_sound : (seller buyer mwh : ℕ) (cover : Cover) → mwh ≤ hour.deployed seller buyer → SoundHour n (with_miss seller buyer mwh cover hour)
+    pub miss_sound : (seller buyer mwh : ℕ) (cover : Cover) → mwh ≤ hour.deployed seller buyer
+        → SoundHour n (with_miss seller buyer mwh cover hour)
     unfolding pair
     miss_sound seller buyer mwh cover within = record {
       results = sound.results;

@@ -31,17 +31,22 @@ unallotted old new isnt e = record {
 on_hour_lem : (state : State) (changed : ℕ) (change : Hour → Hour) → Standing (hour_at state changed) (change (hour_at state changed))
     → (hour : ℕ) → Standing (hour_at state hour) (hour_at (on_hour changed change state) hour)
 on_hour_lem state changed change stands =
-    replaced_has (λ hour. Standing (hour_at state hour)) state.day.hours changed (change (hour_at state changed)) stands (λ hour. same (hour_at state hour))
+    replaced_has (λ hour. Standing (hour_at state hour)) state.day.hours changed (change (hour_at state changed)) stands
+    (λ hour. same (hour_at state hour))
 
 done_stands : (state : State) (event : Event) → state.day.is_open ≡ true → answer state event ≡ granted
     → (h : ℕ) → Standing (hour_at state h) (hour_at (done state event) h)
-done_stands state (open_day day kind month) open? ok h = absurd (both_ways state.day.is_open (open_found state day kind month ok).shut open?)
+done_stands state (open_day day kind month) open? ok h =
+    absurd (both_ways state.day.is_open (open_found state day kind month ok).shut open?)
 done_stands state (enter_result hour party mw) open? ok h =
-    on_hour_lem state (nat_abs hour) (with_result (nat_abs party) mw) (unallotted _ _ (result_found state hour party mw ok).unallotted refl) h
+    on_hour_lem state (nat_abs hour) (with_result (nat_abs party) mw)
+    (unallotted _ _ (result_found state hour party mw ok).unallotted refl) h
 done_stands state (enter_offer hour party mw) open? ok h =
-    on_hour_lem state (nat_abs hour) (with_offer (nat_abs party) (nat_abs mw)) (unallotted _ _ (offer_found state hour party mw ok).unallotted refl) h
+    on_hour_lem state (nat_abs hour) (with_offer (nat_abs party) (nat_abs mw))
+    (unallotted _ _ (offer_found state hour party mw ok).unallotted refl) h
 done_stands state (enter_request hour party mw) open? ok h =
-    on_hour_lem state (nat_abs hour) (with_request (nat_abs party) (nat_abs mw)) (unallotted _ _ (request_found state hour party mw ok).unallotted refl) h
+    on_hour_lem state (nat_abs hour) (with_request (nat_abs party) (nat_abs mw))
+    (unallotted _ _ (request_found state hour party mw ok).unallotted refl) h
 done_stands state (allot_hour hour most meaning) open? ok h =
     on_hour_lem state (nat_abs hour) (allotted_by state.set_up.parties meaning) (record {
       results = λ _. refl;

@@ -18,7 +18,8 @@ done_set_up state _ = refl
 
 pub step_set_up : (state : State) (event : Event) → (step state event).set_up ≡ state.set_up
 step_set_up state event =
-    if_granted_has (λ (s : State). s.set_up ≡ state.set_up) (answer state event) (done state event) state (λ _. done_set_up state event) refl
+    if_granted_has (λ (s : State). s.set_up ≡ state.set_up) (answer state event) (done state event) state
+    (λ _. done_set_up state event) refl
 
 pub tallied_set_up : (set_up : SetUp) (events : List Event) → (tallied set_up events).state.set_up ≡ set_up
 tallied_set_up set_up [] = refl

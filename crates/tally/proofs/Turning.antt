@@ -11,7 +11,8 @@ unmoved : (amount : ℕ) (claims : List ℕ) (before after : Division) → Turne
 unmoved zero claims before after h = h
 unmoved (suc amount) claims before after h = h
 
-module _ (state : State) (prices : DayPrices) (meanings : ℕ → Division) (first last : Division) (turns : Turns Unmoved state prices meanings first last) where
+module _ (state : State) (prices : DayPrices) (meanings : ℕ → Division) (first last : Division)
+    (turns : Turns Unmoved state prices meanings first last) where
   abbrev parties : ℕ
   parties = state.set_up.parties
 

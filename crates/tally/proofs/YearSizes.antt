@@ -16,7 +16,8 @@ ceiling_within full step largest all o l =
     let m = rw e at (mul-add full largest (all - largest)) in
     omega (arith, mul-le-mul_right (all - largest) o, m)
 
-pub ceiling_size : (set_up : SetUp) → Proper set_up → (misses : ℕ → ℕ) → ((month : ℕ) → misses month ≤ 10000) → ceiling_of set_up misses ≤ 12000000000000
+pub ceiling_size : (set_up : SetUp) → Proper set_up → (misses : ℕ → ℕ) → ((month : ℕ) → misses month ≤ 10000)
+    → ceiling_of set_up misses ≤ 12000000000000
 unfolding ceiling_of
 ceiling_size set_up proper misses small =
     omega (

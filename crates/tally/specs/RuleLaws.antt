@@ -1,7 +1,7 @@
 -- What every list of calls keeps of the totals and claims that it hands to a division rule. Assumes nothing.
 use Rattle.std.specs.Prelude.{◌≡◌, ℕ, ◌<◌, ◌≤◌, true, List, length, sum}
 use Rattle.tariff.specs.Answers.{granted, denied}
-use Rattle.tariff.specs.Division.{all_within}
+use Rattle.tariff.specs.Division.{all_within, most_places, most_total}
 use Rattle.tariff.specs.Tables.{Tables, Limited}
 use Rattle.tariff.specs.declared.blocks.Block.{Block}
 use Rattle.tally.specs.Allotment.{supply_answer, allot_total, allot_claims}
@@ -14,12 +14,12 @@ use Rattle.tally.specs.Pairs.{served, pairs_of}
 use Rattle.tally.specs.Settlement.{make_whole}
 use Rattle.tally.specs.States.{State, IsParty, hour_at}
 
--- What is handed to a rule: as many claims as places for shares, at most 12, and each at most 500,000; and a total of at
--- most 10^12, with a claim above 0 where it is above 0.
+-- What is handed to a rule is within its limits: as many claims as places for shares, not too many and none too large;
+-- and a total that is not too large, with a claim above 0 where it is above 0.
 pub record Handed (total : ℕ) (claims : List ℕ) (places : ℕ) : Type 0 where
   pub equal : length claims ≡ places
-  pub few : places ≤ 12
-  pub small : total ≤ 1000000000000
+  pub few : places ≤ most_places
+  pub small : total ≤ most_total
   pub within : all_within claims ≡ true
   pub claimed : 0 < total → 0 < sum claims
 

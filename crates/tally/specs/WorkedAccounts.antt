@@ -12,7 +12,8 @@ use Rattle.tally.specs.Numbered.{numbered}
 use Rattle.tally.specs.States.{State, IsParty, set_up_of, fresh_year}
 use Rattle.tally.specs.Statements.{Statement, paid_to, taken_from, net, due, charges_of}
 use Rattle.tally.specs.Tally.{Tally, tell}
-use Rattle.tally.specs.WorkedPool.{three, day_tables, day_of, met_hour, quiet_day, missed_day, partly_held_day, missed_night, two_buyers_day}
+use Rattle.tally.specs.WorkedPool.{three, day_tables, day_of, met_hour, quiet_day, missed_day}
+use Rattle.tally.specs.WorkedPool.{partly_held_day, missed_night, two_buyers_day}
 
 -- a rule that gives back, in the places of shares, what it was asked: its turn, and the total and the claims
 abbrev pub telling : ℕ → Division

@@ -1,15 +1,18 @@
 -- Worked delivery charges of party 1, which the ceiling of its year cuts or leaves whole. Assumes nothing.
-use Rattle.std.specs.Prelude.{◌≡◌, ℕ, if◌then◌else◌, ◌&&◌, [], ◌∷◌, ℤ, pos, ◌==◌}
+use Rattle.std.specs.Prelude.{◌≡◌, ℕ, if◌then◌else◌, ◌&&◌, List, [], ◌∷◌, ℤ, pos, ◌==◌}
 use Rattle.tariff.specs.Tables.{Tables}
 use Rattle.tariff.specs.declared.blocks.Block.{Block}
 use Rattle.tariff.specs.declared.blocks.Block.TheVariants.{Heavy, Light}
+use Rattle.tariff.specs.declared.blocks.DayKind.TheVariants.{Workday}
 use Rattle.tariff.specs.declared.charges.Cover.TheVariants.{Covered, Uncovered}
 use Rattle.tally.specs.DayPrices.{needed_prices}
 use Rattle.tally.specs.Numbered.{replaced}
-use Rattle.tally.specs.States.{State, Year, fresh_year, on_hour}
+use Rattle.tally.specs.States.{State, Year, fresh, fresh_year, on_hour}
 use Rattle.tally.specs.Statements.{Payment, statement_of}
-use Rattle.tally.specs.WorkedDay.{year_after}
-use Rattle.tally.specs.WorkedPool.{day_tables, dear_tables, negative_tables, day_of, met_hour, hour8, missed_day, missed_night, two_buyers, two_buyers_day}
+use Rattle.tally.specs.Tally.{opened}
+use Rattle.tally.specs.WorkedDay.{year_after, year_of}
+use Rattle.tally.specs.WorkedPool.{three, day_tables, dear_tables, negative_tables, day_of, met_hour, hour8}
+use Rattle.tally.specs.WorkedPool.{missed_day, missed_night, two_buyers, two_buyers_day}
 
 -- party 1's entry with a buyer
 abbrev pub entry_of : Tables → Block → State → ℕ → Payment
@@ -33,6 +36,22 @@ year_with month failures charges = record fresh_year {
   charges = replaced (λ seller. 0) 1 charges;
 }
 
+-- hour 8 on a day of month 2, in a year in which party 1 missed up to 5 MWh in month 1
+abbrev pub second_month : State
+second_month = on_hour 8 (λ before. hour8 2 Covered) (opened 1 Workday 2 (record (fresh three) { year = year_with 1 0 0 }))
+
+-- hour 8 in which party 2 misses the MWh, in the year of party 1
+abbrev pub missed_by_second : State
+missed_by_second = day_of (year_with 3 1 125000) 8 (met_hour 7 (4 ∷ 3 ∷ []) (3 ∷ 2 ∷ []) (0 ∷ 1 ∷ []) Covered)
+
+-- two buyers, of whom only the second one's miss is covered; what is charged for each, to the pool and to the buyer
+abbrev pub one_uncovered : State
+one_uncovered = day_of (year_with 3 0 0) 8 (record two_buyers { cover = λ seller. replaced (λ buyer. Covered) 2 Uncovered })
+
+abbrev pub charged_for : ℕ → List ℤ
+charged_for buyer =
+    (entry_of day_tables Heavy one_uncovered buyer).to_pool ∷ (entry_of day_tables Heavy one_uncovered buyer).to_buyer ∷ []
+
 pub record WorkedCharges : Type 0 where
   -- covered, 2 MWh are charged 5 × 5,000 each, to the pool; the ceiling of 2 MW, today's miss, cuts 50,000 to 40,000
   pub covered_to_pool : to_pool Heavy (missed_day Covered) ≡ pos 40000
@@ -42,6 +61,9 @@ pub record WorkedCharges : Type 0 where
   -- with two buyers the first is charged for whole, and the second for what the ceiling leaves
   pub first_buyer : (entry_of day_tables Heavy two_buyers_day 2).to_pool ≡ pos 25000
   pub second_buyer : (entry_of day_tables Heavy two_buyers_day 3).to_pool ≡ pos 15000
+  -- each by its own cover: 25 × 5,000 to buyer 2, and of 130,000 the rest to the pool
+  pub uncovered_of_two : charged_for 2 ≡ pos 0 ∷ pos 125000 ∷ []
+  pub covered_of_two : charged_for 3 ≡ pos 5000 ∷ pos 0 ∷ []
   -- of 65,000 that a ceiling of 130,000 leaves, the charges for both buyers take 25,000 each in hour 8; 15,000 are left for hour 9
   pub later_hour : to_pool Heavy (missed_again (day_of (year_with 3 0 65000) 8 two_buyers)) ≡ pos 40000
   -- the higher of both prices counts, and none below 0
@@ -55,6 +77,10 @@ pub record WorkedCharges : Type 0 where
   pub charged_before : to_buyer Heavy (day_of (year_with 3 1 125000) 8 (hour8 2 Uncovered)) ≡ pos 5000
   pub december : to_buyer Heavy (day_of (year_with 12 1 0) 8 (hour8 2 Uncovered)) ≡ pos 130000
   pub year_so_far : year_after (day_of (year_with 3 1 125000) 8 (hour8 2 Uncovered)) ≡ 2 ∷ 2 ∷ 0 ∷ 130000 ∷ []
+  -- a miss counts in its day's own month, and the largest of another month stays
+  pub other_month : year_after second_month ≡ 1 ∷ 5 ∷ 2 ∷ 50000 ∷ []
+  -- a seller's factor and ceiling go by its own year: party 2 has its first failure day and a ceiling of 20,000
+  pub other_party : year_of 2 missed_by_second ≡ 1 ∷ 1 ∷ 0 ∷ 20000 ∷ []
   -- 5 MWh missed before in the day's own month stay its largest miss: the ceiling of 100,000 cuts nothing
   pub same_month : to_pool Heavy (day_of (year_with 1 0 0) 8 (hour8 2 Covered)) ≡ pos 50000
   -- a single MWh, missed in the last hour, at the light block's 3,000, on the first failure day and on the second

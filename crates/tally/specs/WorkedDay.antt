@@ -11,7 +11,8 @@ use Rattle.tally.specs.Settlement.{holdback, energy, make_whole}
 use Rattle.tally.specs.States.{State, fresh, fresh_year, on_hour}
 use Rattle.tally.specs.Tally.{done}
 use Rattle.tally.specs.Years.{year_closed}
-use Rattle.tally.specs.WorkedPool.{three, day_tables, hour8, quiet_day, second_day, missed_day, partly_held_day, missed_night, two_buyers_day}
+use Rattle.tally.specs.WorkedPool.{three, day_tables, hour8, quiet_day, second_day, missed_day}
+use Rattle.tally.specs.WorkedPool.{partly_held_day, missed_night, two_buyers_day}
 
 -- in a block: what party 3 pays to parties 1 and 2 for holding and for energy, and what makes them whole
 abbrev pub holdbacks : Block → State → List ℤ
@@ -27,11 +28,14 @@ make_wholes block state = map (make_whole state (needed_prices state day_tables)
 abbrev pub quiet_sunday : State
 quiet_sunday = on_hour 8 (λ before. hour8 0 Covered) (done (fresh three) (open_day (pos 1) Sunday (pos 1)))
 
--- the year of party 1 after the day's close: failure days, its misses in months 1 and 2, charges
-abbrev pub year_after : State → List ℕ
-year_after state =
+-- the year of a party after the day's close, and that of party 1: failure days, its misses in months 1 and 2, charges
+abbrev pub year_of : ℕ → State → List ℕ
+year_of party state =
     let year = year_closed state (needed_prices state day_tables) in
-    year.failure_days 1 ∷ year.misses 1 1 ∷ year.misses 1 2 ∷ year.charges 1 ∷ []
+    year.failure_days party ∷ year.misses party 1 ∷ year.misses party 2 ∷ year.charges party ∷ []
+
+abbrev pub year_after : State → List ℕ
+year_after state = year_of 1 state
 
 -- the prices by which an hour is settled: day-ahead, real-time, and the factor
 abbrev pub prices_at : State → ℕ → List ℤ
@@ -44,6 +48,8 @@ pub record WorkedDay : Type 0 where
   pub held_prices : prices_at quiet_day 8 ≡ pos 5000 ∷ pos 4000 ∷ pos 12000 ∷ []
   pub block_prices : prices_at quiet_day 9 ≡ pos 5000 ∷ pos 4000 ∷ pos 0 ∷ []
   pub no_prices : prices_at quiet_day 24 ≡ pos 0 ∷ pos 0 ∷ pos 0 ∷ []
+  -- nor has a number that is no hour, though it counts as one of the night, in which something is held
+  pub no_hour : prices_at (missed_night fresh_year) 25 ≡ pos 3000 ∷ pos 0 ∷ pos 0 ∷ []
   -- on day 2, of which the source has none, those of day 1 are not taken
   pub other_day : prices_at second_day 8 ≡ pos 0 ∷ pos 0 ∷ pos 0 ∷ []
   -- 10,400 + 12,000 + 53,600 = 76,000 cents for party 1 and 7,800 + 8,000 + 40,200 = 56,000 for party 2

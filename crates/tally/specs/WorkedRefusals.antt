@@ -2,9 +2,11 @@
 -- tests of its divisions. Assumes nothing.
 use Rattle.std.specs.Prelude.{◌≡◌, ℕ, if◌then◌else◌, List, [], ◌∷◌, map, pos, neg_ℤ, None, Option, ◌==◌}
 use Rattle.tariff.specs.Answers.{Answer, granted, denied, in_order}
-use Rattle.tariff.specs.Blocks.{hours_of_day}
+use Rattle.tariff.specs.Blocks.{hours_of_day, same_block}
 use Rattle.tariff.specs.Division.{Division}
 use Rattle.tariff.specs.Tables.{Tables}
+use Rattle.tariff.specs.declared.blocks.Block.{Block}
+use Rattle.tariff.specs.declared.blocks.Block.TheVariants.{Heavy, Light}
 use Rattle.tariff.specs.declared.blocks.DayKind.TheVariants.{Workday}
 use Rattle.tariff.specs.declared.charges.Cover.TheVariants.{Covered}
 use Rattle.tally.specs.DayPrices.{needed_prices, needed_quotes_answer}
@@ -63,6 +65,10 @@ no_factor hour = record day_tables { factor = without hour day_tables.factor }
 
 abbrev pub no_real_time : ℕ → Tables
 no_real_time hour = record (no_factor hour) { real_time = without hour day_tables.real_time }
+
+-- with the day-ahead price of one block alone
+abbrev pub one_block : Block → Tables
+one_block block = record day_tables { day_ahead = λ day b. if same_block b block then day_tables.day_ahead day b else None }
 
 abbrev pub closing : Tables → (most heavy_page light_page : ℕ) → Event
 closing tables most heavy_page light_page = close_day tables most (λ turn. any) heavy_page light_page
@@ -195,6 +201,11 @@ pub record WorkedRefusals : Type 0 where
   -- a factor is needed in an hour in which a single MW is held, and in no other: not for what is only requested
   pub factor_needed : needed_quotes_answer (day_of fresh_year 8 one_missed) (no_factor 8) 8 ≡ denied 66 8 3
   pub factor_unneeded : in_order (needed_quotes_answer (offering 10) (no_factor 9)) hours_of_day ≡ granted
+  -- each block's day-ahead price where it is held in that block
+  pub heavy_needed : in_order (needed_quotes_answer quiet_day (one_block Heavy)) hours_of_day ≡ granted
+  pub heavy_missing : in_order (needed_quotes_answer quiet_day (one_block Light)) hours_of_day ≡ denied 66 7 1
+  pub light_needed : in_order (needed_quotes_answer (missed_night fresh_year) (one_block Light)) hours_of_day ≡ granted
+  pub light_missing : in_order (needed_quotes_answer (missed_night fresh_year) (one_block Heavy)) hours_of_day ≡ denied 66 1 1
   -- party 1's make-whole has one claim, in the heavy block, and on another day in the light one
   pub sharing_denied : sharings_answer quiet_day (needed_prices quiet_day day_tables) 0 ≡ denied 73 1 0
   pub light_sharing_denied : sharings_answer (missed_night fresh_year) (needed_prices (missed_night fresh_year) day_tables) 0

@@ -8,21 +8,30 @@ use Rattle.tariff.specs.declared.refusal.Refusal.TheVariants.{ShareLists, Divisi
 abbrev pub Division : Type 0
 Division = ℕ → List ℕ → List ℕ
 
--- a claim is at most 500,000
+-- how many places there are at most, and how large a total and a claim are
+abbrev pub most_places : ℕ
+most_places = 12
+
+abbrev pub most_total : ℕ
+most_total = 1000000000000
+
+abbrev pub most_claim : ℕ
+most_claim = 500000
+
 abbrev pub all_within : List ℕ → Bool
-all_within claims = list_all (λ claim. nat_le claim 500000) claims
+all_within claims = list_all (λ claim. nat_le claim most_claim) claims
 
 -- how many claims are above 0
 abbrev pub above_zero : List ℕ → ℕ
 above_zero claims = count_by (λ claim. nat_lt 0 claim) claims
 
 -- The answer of a rule that takes `most` claims above 0, where there are so many places for shares. In this order:
--- equal lists of at most 12 places; a total of at most 10^12 and claims within their limit; a claim above 0 where the
--- total is; no more claims above 0 than the rule takes.
+-- equal lists of not too many places; a total and claims within their limits; a claim above 0 where the total is; no more
+-- claims above 0 than the rule takes.
 abbrev pub division_answer : (most total : ℕ) (claims : List ℕ) (places : ℕ) → Answer
 division_answer most total claims places =
-    require (length claims == places && nat_le places 12) ShareLists
-    then require (nat_le total 1000000000000 && all_within claims) DivisionFigure
+    require (length claims == places && nat_le places most_places) ShareLists
+    then require (nat_le total most_total && all_within claims) DivisionFigure
     then require (total == 0 || nat_lt 0 (sum claims)) NoClaims
     then require (nat_le (above_zero claims) most) (TooManyClaims (above_zero claims) most)
 
@@ -39,7 +48,8 @@ gap a b = (a - b) + (b - a)
 pub record Lawful (total : ℕ) (claims shares : List ℕ) : Type 0 where
   pub places : length shares ≡ length claims
   pub adds : sum shares ≡ total
-  pub near : 0 < sum claims → (i : ℕ) → i < length claims → gap (slice_index shares i * sum claims) (total * slice_index claims i) < sum claims
+  pub near : 0 < sum claims → (i : ℕ) → i < length claims
+      → gap (slice_index shares i * sum claims) (total * slice_index claims i) < sum claims
   pub none : sum claims ≡ 0 → total ≡ 0 → (i : ℕ) → i < length claims → slice_index shares i ≡ 0
 
 -- a division that keeps the law wherever a rule that takes `most` claims above 0 accepts
@@ -61,7 +71,8 @@ Moved moves (denied number first second) before total claims after = after ≡ b
 
 -- One call of a rule that takes `most` claims above 0 and moves its meaning by `moves`: the meaning and the list of
 -- shares before it, its answer to a total and claims, the list of shares and the meaning after it.
-pub record Divided (most : ℕ) (moves : Moves) (before : Division) (total : ℕ) (claims old : List ℕ) (answer : Answer) (new : List ℕ) (after : Division) : Type 0 where
+pub record Divided (most : ℕ) (moves : Moves) (before : Division) (total : ℕ) (claims old : List ℕ) (answer : Answer) (new : List ℕ)
+    (after : Division) : Type 0 where
   pub answers : answer ≡ division_answer most total claims (length old)
   pub shares : new ≡ if_granted answer (before total claims) old
   pub moved : Moved moves answer before total claims after

@@ -22,4 +22,5 @@ quote_answer tables kind day hour =
 -- the prices where none is missing
 abbrev pub quoted_prices : Terms → Tables → DayKind → ℕ → ℕ → HourPrices
 quoted_prices terms tables kind day hour =
-    hour_prices terms (unwrap_or (tables.day_ahead day (block_of kind hour)) (pos 0)) (unwrap_or (tables.real_time day hour) (pos 0)) (unwrap_or (tables.factor day hour) 0)
+    hour_prices terms (unwrap_or (tables.day_ahead day (block_of kind hour)) (pos 0)) (unwrap_or (tables.real_time day hour) (pos 0))
+    (unwrap_or (tables.factor day hour) 0)

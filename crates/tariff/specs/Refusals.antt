@@ -6,7 +6,11 @@ use Rattle.tariff.specs.declared.refusal.Layer.TheVariants.{LineWriter, SetUp, D
 use Rattle.tariff.specs.declared.refusal.Quote.{Quote}
 use Rattle.tariff.specs.declared.refusal.Quote.TheVariants.{DayAhead, RealTime, Factor}
 use Rattle.tariff.specs.declared.refusal.Refusal.{Refusal}
-use Rattle.tariff.specs.declared.refusal.Refusal.TheVariants.{LineTooLong, UnknownLetter, FieldCount, Misspelt, ShortTarget, Parties, Rates, SecondSetUp, NotSetUp, PageSize, DayOpen, NoDayOpen, Day, Month, Hour, Party, Figure, HourAllotted, HourNotAllotted, AboveShortfall, AboveRequest, AboveDeployment, AboveSupply, MissingPrice, ShareLists, DivisionFigure, NoClaims, TooManyClaims}
+use Rattle.tariff.specs.declared.refusal.Refusal.TheVariants.{LineTooLong, UnknownLetter, FieldCount, Misspelt, ShortTarget, Parties, Rates}
+use Rattle.tariff.specs.declared.refusal.Refusal.TheVariants.{SecondSetUp, NotSetUp, PageSize, DayOpen, NoDayOpen, Day, Month, Hour, Party}
+use Rattle.tariff.specs.declared.refusal.Refusal.TheVariants.{Figure, HourAllotted, HourNotAllotted, AboveShortfall, AboveRequest}
+use Rattle.tariff.specs.declared.refusal.Refusal.TheVariants.{AboveDeployment, AboveSupply, MissingPrice, ShareLists, DivisionFigure}
+use Rattle.tariff.specs.declared.refusal.Refusal.TheVariants.{NoClaims, TooManyClaims}
 
 -- the number by which a refusal is told
 abbrev pub number_of : Refusal → ℕ

@@ -16,7 +16,7 @@ pub(crate) const MOST_PRICE: u64 = 1_000_000;
 const MOST_FACTOR: u32 = 100_000;
 
 // A figure of an entry, as it is kept: only within its limits. It is no TryFrom, whose contract would be a relation between
-// figure and result, where here an answer is one equation. A position is the call's, a figure the caller's: two figures.
+// figure and result, where here an answer is one equation.
 pub trait Figure: Sized {
     // The limits of what is entered.
     ghost is_within: { ℤ → Bool };

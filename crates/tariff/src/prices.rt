@@ -1,7 +1,8 @@
 // Settlement prices of one hour, in cents per MWh.
 ghost use Rattle.std.specs.Prelude.{◌≡◌, ◌*◌, ◌≤◌, pos, ◌*ℤ◌, ◌≤ℤ◌, IfOk, unsigned_abs};
 ghost use Rattle.tariff.specs.Answers.{Gives};
-ghost use Rattle.tariff.specs.Prices.{is_price, average_answer, average_price, initial_terms, total_price, energy_price, hour_prices, prices_answer};
+ghost use Rattle.tariff.specs.Prices.{is_price, average_answer, average_price, initial_terms};
+ghost use Rattle.tariff.specs.Prices.{total_price, energy_price, hour_prices, prices_answer};
 ghost use Rattle.tariff.specs.Rounding.{nearest};
 
 use crate::figures::{Factor, Figure, MOST_PRICE, Price};

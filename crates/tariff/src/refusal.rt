@@ -39,7 +39,7 @@ pub enum Layer {
     DivisionRule,
 }
 
-// One case for each refusal of the project. A position counts the figures of the refused entry from 1.
+// One case for each refusal of the project. A position counts the fields of the refused entry from 1, marks too.
 #[derive(Clone, Copy, Debug, PartialEq, Eq)]
 pub enum Refusal {
     LineTooLong,

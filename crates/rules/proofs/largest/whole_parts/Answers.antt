@@ -13,7 +13,9 @@ loop-i-preserved c =
     let d = c.args.division.now in
     let i = c.loop-i.i in
     record {
-      wholes = rw c.whole_part-whole.ensures (fill_by_more (whole_part d.total d.claims.now) c.loop-i.shares i 0 (omega arith) c.loop-i.invariant.wholes);
-      rests = rw c.remainder.ensures (fill_by_more (remainder d.total d.claims.now) c.loop-i.remainders i 0 (omega arith) c.loop-i.invariant.rests);
+      wholes = rw c.whole_part-whole.ensures
+          (fill_by_more (whole_part d.total d.claims.now) c.loop-i.shares i 0 (omega arith) c.loop-i.invariant.wholes);
+      rests = rw c.remainder.ensures
+          (fill_by_more (remainder d.total d.claims.now) c.loop-i.remainders i 0 (omega arith) c.loop-i.invariant.rests);
       left = grind (arith, sum_more, whole_within);
     }

@@ -10,4 +10,5 @@ whole_part-reached-requires c = omega (arith, sum_by_more_le (λ x. x) c.args.di
 pub returns : goal.returns
 returns c =
     let d = c.args.division.now in
-    fill_by_all (running_share d.total d.claims.now) c.loop-i.shares (length d.claims.now) 0 (omega arith) (λ k h. c.loop-i.invariant.written k (omega arith))
+    fill_by_all (running_share d.total d.claims.now) c.loop-i.shares (length d.claims.now) 0 (omega arith)
+    (λ k h. c.loop-i.invariant.written k (omega arith))

@@ -9,10 +9,12 @@ nearest_whole-requires-clause-size c =
 pub invariant_of-result : goal.invariant_of-result
 invariant_of-result c =
     let a = c.args in
-    let e = average_kept a.first a.second a.third a.fourth c.nearest_whole.result (record { sfits = c.nearest_whole.type_inv }) c.nearest_whole.ensures in
+    let e = average_kept a.first a.second a.third a.fourth c.nearest_whole.result
+    (record { sfits = c.nearest_whole.type_inv }) c.nearest_whole.ensures in
     record { within = rw e (average_within a.first a.second a.third a.fourth) }
 
 pub returns : goal.returns
 returns c =
     let a = c.args in
-    average_kept a.first a.second a.third a.fourth c.nearest_whole.result (record { sfits = c.nearest_whole.type_inv }) c.nearest_whole.ensures
+    average_kept a.first a.second a.third a.fourth c.nearest_whole.result
+    (record { sfits = c.nearest_whole.type_inv }) c.nearest_whole.ensures
