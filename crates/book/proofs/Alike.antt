@@ -7,11 +7,12 @@ use Rattle.tally.specs.Numbered.{total_z}
 use Rattle.tally.specs.RevenueLaws.{Reached, buyers_pay, covered}
 use Rattle.tally.specs.Settlement.{credits}
 use Rattle.tally.specs.States.{State, IsParty}
-use Rattle.tally.specs.Statements.{Statement, Payment, buyer_pays, seller_pays, of_seller, of_buyer, paid_to, taken_from, net, due, charges_of}
+use Rattle.tally.specs.Statements.{Statement, Payment, buyer_pays, seller_pays, of_seller, of_buyer, paid_to, taken_from, net, due}
+use Rattle.tally.specs.Statements.{charges_of}
 use Rattle.tally.proofs.Numbering.{total_z_same}
-use Rattle.book.specs.Closes.{SamePages}
+use Rattle.book.specs.SameStatement.{SameStatement}
 
-module _ (n : ℕ) (few : n ≤ 12) (a b : Statement) (same : SamePages a b) where
+module _ (n : ℕ) (few : n ≤ 12) (a b : Statement) (same : SameStatement a b) where
   seller_same : (figure : Payment → ℤ) (seller : ℕ) → 0 < seller → seller ≤ n → of_seller n a figure seller ≡ of_seller n b figure seller
   seller_same figure seller l m = ap₂ ◌+ℤ◌ (by Heavy) (by Light)
     where
@@ -38,7 +39,7 @@ module _ (n : ℕ) (few : n ≤ 12) (a b : Statement) (same : SamePages a b) whe
 -- the same of two lists of statements
 pub data Alike : List Statement → List Statement → Type 0 where
   none : Alike [] []
-  more : {a b : Statement} {xs ys : List Statement} → SamePages a b → Alike xs ys → Alike (a ∷ xs) (b ∷ ys)
+  more : {a b : Statement} {xs ys : List Statement} → SameStatement a b → Alike xs ys → Alike (a ∷ xs) (b ∷ ys)
 
 pub alike_append : {xs ys vs ws : List Statement} → Alike xs ys → Alike vs ws → Alike (xs ++ vs) (ys ++ ws)
 alike_append none rest = rest
@@ -54,7 +55,7 @@ year_same n few none seller l m = refl
 year_same n few (more {a} {b} same rest) seller l m = ap₂ ◌+ℤ◌ (charges_same n few a b same seller l m) (year_same n few rest seller l m)
 
 -- pages that are the statement reach what the statement does
-pub reached_same : (state : State) (prices : DayPrices) (a b : Statement) → state.set_up.parties ≤ 12 → SamePages a b
+pub reached_same : (state : State) (prices : DayPrices) (a b : Statement) → state.set_up.parties ≤ 12 → SameStatement a b
     → (block : Block) (seller : ℕ) → IsParty state seller → Reached state prices b block seller → Reached state prices a block seller
 reached_same state prices a b few same block seller (l, m) reached =
     let pays : (figure : Payment → ℤ) → buyers_pay state a figure block seller ≡ buyers_pay state b figure block seller =

@@ -12,12 +12,12 @@ use Rattle.tally.proofs.Findings.{allot_found}
 use Rattle.tally.proofs.Sizes.{holding_size}
 use Rattle.tally.proofs.SoundHours.{allot_sound}
 use Rattle.book.specs.Books.{state_of}
-use Rattle.book.specs.Goes.{Goes}
+use Rattle.book.specs.Stepped.{Stepped}
 use Rattle.book.specs.HourEntries.{Changed}
 use Rattle.book.specs.declared.book.Book.{Book}
 use Rattle.book.specs.declared.records.DayRecord.{DayRecord}
 use Rattle.book.proofs.Facts.{sound_of}
-use Rattle.book.proofs.HourCalls.{HourCall, refused_goes}
+use Rattle.book.proofs.HourCalls.{HourCall, refused_stepped}
 use Rattle.book.proofs.Testing.{denied_three, granted_three}
 
 module _ (b : Book) (hour : ℤ) (most : ℕ) (rule : Division) (lawful : LawfulRule most rule) where
@@ -29,9 +29,9 @@ module _ (b : Book) (hour : ℤ) (most : ℕ) (rule : Division) (lawful : Lawful
 
   -- refused before the rule is asked
   pub unfit_allot : (e : Refusal) → refused e ≡ (day_is_open state then is_hour_at state 1 hour then is_unallotted state hour)
-      → Goes b (allot_hour hour most rule) (refused e) b
+      → Stepped b (allot_hour hour most rule) (refused e) b
   unfit_allot e refuses =
-      refused_goes b (allot_hour hour most rule) (refused e) e lawful refl
+      refused_stepped b (allot_hour hour most rule) (refused e) e lawful refl
       (denied_three e (day_is_open state) (is_hour_at state 1 hour) (is_unallotted state hour) _ refuses)
 
   -- of an hour that may still be allotted
@@ -43,8 +43,8 @@ module _ (b : Book) (hour : ℤ) (most : ℕ) (rule : Division) (lawful : Lawful
         ∙ granted_three (day_is_open state) (is_hour_at state 1 hour) (is_unallotted state hour) _ fit
 
     pub refused_allot : (e : Refusal) → refused e ≡ allot_answer parties (hour_at state number) most number
-        → Goes b (allot_hour hour most rule) (refused e) b
-    refused_allot e refuses = refused_goes b (allot_hour hour most rule) (refused e) e lawful refl (late (refused e) refuses)
+        → Stepped b (allot_hour hour most rule) (refused e) b
+    refused_allot e refuses = refused_stepped b (allot_hour hour most rule) (refused e) e lawful refl (late (refused e) refuses)
 
     module _ (ok : granted ≡ allot_answer parties (hour_at state number) most number)
         (holdings : ℕ → ℕ) (held : holdings ≡ allotment parties (hour_at state number) rule) where

@@ -25,7 +25,8 @@ begun_state pool day year b = λ i. record {
   year = b.figures i;
 }
 
-pub begun_led : (pool : Pool) (day : DayRecord) (year : YearRecord) (balances : List ℤ) → Blank day year → All Laid day.hours → Proper (set_up_in pool)
+pub begun_led : (pool : Pool) (day : DayRecord) (year : YearRecord) (balances : List ℤ) → Blank day year → All Laid day.hours
+    → Proper (set_up_in pool)
     → ((account : ℕ) → get_or balances account (pos 0) ≡ pos 0) → ∥ Led pool day year balances ∥₁
 begun_led pool day year balances b laid proper none = ∣ record {
   events = [];

@@ -20,15 +20,15 @@ use Rattle.tally.proofs.MakeWholeSize.{make_whole_size}
 use Rattle.tally.proofs.Numbering.{term_le}
 use Rattle.tally.proofs.Revenue.{make_whole_adds, sharing_granted}
 use Rattle.book.specs.Books.{state_of}
-use Rattle.book.specs.Closes.{SamePages}
+use Rattle.book.specs.SameStatement.{SameStatement}
 use Rattle.book.specs.Closings.{close_answer, SettledBy}
 use Rattle.book.specs.Payments.{statement_in}
 use Rattle.book.specs.PricedDays.{prices_in}
 use Rattle.book.specs.Records.{at}
-use Rattle.book.specs.Settled.{paid, paid_at, PaidIn}
+use Rattle.book.specs.PaidTables.{paid, paid_at, PaidIn}
 use Rattle.book.specs.Sharing.{Shared, shares_in}
 use Rattle.book.specs.declared.book.Book.{Book}
-use Rattle.book.specs.declared.payment.Payment.{Payment as Entry}
+use Rattle.book.specs.declared.payment.Payment.{Payment as PageEntry}
 use Rattle.book.specs.declared.priced_day.PricedDay.{PricedDay}
 use Rattle.book.proofs.DayPriced.{small_prices}
 use Rattle.book.proofs.Facts.{sound_of}
@@ -70,7 +70,8 @@ module _ (state : State) (prices : DayPrices) (meanings : ℕ → Division) (sha
     (absent : (block : Block) (seller buyer : ℕ) → 0 < seller → (state.set_up.parties < seller) ⊎ (state.set_up.parties < buyer)
     → statement_of state prices meanings block seller buyer ≡ no_payment) where
   at_place : (block : Block) (seller buyer : ℕ)
-      → paid_at state prices block seller buyer (shares block (suc seller) (suc buyer)) ≡ statement_of state prices meanings block (suc seller) (suc buyer)
+      → paid_at state prices block seller buyer (shares block (suc seller) (suc buyer))
+      ≡ statement_of state prices meanings block (suc seller) (suc buyer)
   at_place block seller buyer = by (ltb seller state.set_up.parties) refl (ltb buyer state.set_up.parties) refl
     where
       by : (s : Bool) → ltb seller state.set_up.parties ≡ s → (b : Bool) → ltb buyer state.set_up.parties ≡ b
@@ -79,12 +80,16 @@ module _ (state : State) (prices : DayPrices) (meanings : ℕ → Division) (sha
       by true e true f =
           let l = ltb-true seller state.set_up.parties e in
           let m = ltb-true buyer state.set_up.parties f in
-          ap (paid state prices block (suc seller) (suc buyer)) (shared block (suc seller) (suc buyer) (omega arith, omega arith) (omega arith, omega arith))
-      by true e false f = sym (absent block (suc seller) (suc buyer) (omega arith) (inr (omega (arith, ltb-false buyer state.set_up.parties f))))
-      by false e b f = sym (absent block (suc seller) (suc buyer) (omega arith) (inl (omega (arith, ltb-false seller state.set_up.parties e))))
+          ap (paid state prices block (suc seller) (suc buyer))
+          (shared block (suc seller) (suc buyer) (omega arith, omega arith) (omega arith, omega arith))
+      by true e false f =
+          sym (absent block (suc seller) (suc buyer) (omega arith) (inr (omega (arith, ltb-false buyer state.set_up.parties f))))
+      by false e b f =
+          sym (absent block (suc seller) (suc buyer) (omega arith) (inl (omega (arith, ltb-false seller state.set_up.parties e))))
 
-  pub tables_same : (heavy light : List (List Entry)) → PaidIn state prices Heavy (shares Heavy) heavy → PaidIn state prices Light (shares Light) light
-      → SamePages (statement_in heavy light) (statement_of state prices meanings)
+  pub tables_same : (heavy light : List (List PageEntry)) → PaidIn state prices Heavy (shares Heavy) heavy
+      → PaidIn state prices Light (shares Light) light
+      → SameStatement (statement_in heavy light) (statement_of state prices meanings)
   tables_same heavy light h l Heavy zero buyer p q r s = absurd (omega arith)
   tables_same heavy light h l Heavy (suc seller) zero p q r s = absurd (omega arith)
   tables_same heavy light h l Heavy (suc seller) (suc buyer) p q r s = h seller buyer q s ∙ at_place Heavy seller buyer
@@ -94,17 +99,19 @@ module _ (state : State) (prices : DayPrices) (meanings : ℕ → Division) (sha
 
 -- what was settled by the prices that a close needs
 pub settled_by : (tables : Tables) (most : ℕ) (moves : Moves) (state : State) (prices : DayPrices) (first last : Division)
-    (heavy_shares light_shares : List (List ℕ)) (heavy light : List (List Entry)) (charges : List ℕ) → prices ≡ needed_prices state tables
+    (heavy_shares light_shares : List (List ℕ)) (heavy light : List (List PageEntry)) (charges : List ℕ)
+    → prices ≡ needed_prices state tables
     → (shared : Shared most moves state prices first heavy_shares light_shares last)
-    → SamePages (statement_in heavy light) (statement_of state prices shared.meanings)
+    → SameStatement (statement_in heavy light) (statement_of state prices shared.meanings)
     → ((seller : ℕ) → IsParty state seller → at 0 charges seller ≡ day_charges state prices seller)
     → ((seller : ℕ) → at 0 charges seller ≤ 144000000000000)
     → SettledBy tables most moves state first heavy light charges last
-settled_by tables most moves state prices first last heavy_shares light_shares heavy light charges needed shared same charged small = record {
+settled_by tables most moves state prices first last _ _ heavy light charges needed shared same charged small = record {
   meanings = shared.meanings;
   lawful = shared.lawful;
   turns = subst (λ (p : DayPrices). Turns moves state p shared.meanings first last) needed shared.turns;
-  statement = subst (λ (p : DayPrices). SamePages (statement_in heavy light) (statement_of state p shared.meanings)) needed same;
-  charged = subst (λ (p : DayPrices). (seller : ℕ) → IsParty state seller → at 0 charges seller ≡ day_charges state p seller) needed charged;
+  statement = subst (λ (p : DayPrices). SameStatement (statement_in heavy light) (statement_of state p shared.meanings)) needed same;
+  charged = subst (λ (p : DayPrices). (seller : ℕ) → IsParty state seller → at 0 charges seller ≡ day_charges state p seller) needed
+      charged;
   small = small;
 }

@@ -7,8 +7,8 @@ use Rattle.tally.specs.Numbered.{total}
 use Rattle.tally.specs.States.{State, hour_at}
 use Rattle.tally.proofs.Numbering.{total_none, total_more, term_le}
 use Rattle.book.proofs.Blanks.{at_same, at_row}
-use Rattle.book.specs.CutTables.{left_after, entry_in, SmallEntries, HasCuts}
-use Rattle.book.specs.Records.{at}
+use Rattle.book.specs.CutTables.{left_after, SmallCuts, HasCuts}
+use Rattle.book.specs.Records.{at, in_row}
 
 module _ (state : State) (prices : DayPrices) (seller : ℕ) where
   -- what is left within the hour after some hours, when some buyers have been charged
@@ -50,10 +50,10 @@ zeros_small k = omega (arith, zeros_none k)
 abbrev pub zero_rows : List (List ℕ)
 zero_rows = replicate 24 zeros
 
-pub zero_rows_none : (hour buyer : ℕ) → entry_in zero_rows hour buyer ≡ 0
+pub zero_rows_none : (hour buyer : ℕ) → in_row 0 zero_rows hour buyer ≡ 0
 zero_rows_none = at_row 24 12 0
 
-pub zero_rows_small : SmallEntries zero_rows
+pub zero_rows_small : SmallCuts zero_rows
 zero_rows_small hour buyer = omega (arith, zero_rows_none hour buyer)
 
 -- who missed nothing is not charged

@@ -8,7 +8,7 @@ use Rattle.tally.specs.Events.{Event, Lawfully}
 use Rattle.tally.specs.Statements.{due}
 use Rattle.tally.specs.Tally.{step, done, stated, filed}
 use Rattle.book.specs.Books.{state_of}
-use Rattle.book.specs.Goes.{Goes}
+use Rattle.book.specs.Stepped.{Stepped}
 use Rattle.book.specs.Led.{Led, Laid}
 use Rattle.book.specs.Records.{state_in}
 use Rattle.book.specs.declared.book.Book.{Book}
@@ -21,7 +21,8 @@ module _ (b : Book) (day : DayRecord) (year : YearRecord) (event : Event) (ok : 
   stepped : state_in b.pool day year ≡ step (state_of b) event
   stepped = is ∙ ap (λ x. if_granted x (done (state_of b) event) (state_of b)) ok
 
-  unpaid : (account : ℕ) → get_or b.balances account (pos 0) ≡ get_or b.balances account (pos 0) +ℤ due b.pool.parties (filed (state_of b) event) account
+  unpaid : (account : ℕ) → get_or b.balances account (pos 0) ≡ get_or b.balances account (pos 0)
+      +ℤ due b.pool.parties (filed (state_of b) event) account
   unpaid account =
       let e = ap (λ x. due b.pool.parties (if_granted x (stated (state_of b) event) []) account) ok in
       let f = ap (λ made. due b.pool.parties made account) unstated in
@@ -30,5 +31,13 @@ module _ (b : Book) (day : DayRecord) (year : YearRecord) (event : Event) (ok : 
   pub day_led : (All Laid b.day.hours → All Laid day.hours) → ∥ Led b.pool day year b.balances ∥₁
   day_led laid = led_next b.pool b.day day b.year year b.balances b.balances event b.led lawful stepped (λ account l. unpaid account) laid
 
-  pub day_goes : (led : ∥ Led b.pool day year b.balances ∥₁) → Goes b event granted (record { pool = b.pool; day = day; year = year; balances = b.balances; led = led })
-  day_goes led = record { lawful = lawful; answers = ok; state = stepped; balances = λ account l. unpaid account; others = λ account l. refl; unchanged = λ n. absurd (n refl) }
+  pub day_stepped : (led : ∥ Led b.pool day year b.balances ∥₁)
+      → Stepped b event granted (record { pool = b.pool; day = day; year = year; balances = b.balances; led = led })
+  day_stepped led = record {
+    lawful = lawful;
+    answers = ok;
+    state = stepped;
+    balances = λ account l. unpaid account;
+    others = λ account l. refl;
+    unchanged = λ n. absurd (n refl);
+  }

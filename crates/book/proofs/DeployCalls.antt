@@ -11,12 +11,12 @@ use Rattle.tally.specs.Numbered.{numbered}
 use Rattle.tally.specs.Pairs.{deploy_answer, deployed_by, pairs_of, served}
 use Rattle.tally.specs.States.{State, hour_at, on_hour}
 use Rattle.book.specs.Books.{state_of}
-use Rattle.book.specs.Goes.{Goes}
+use Rattle.book.specs.Stepped.{Stepped}
 use Rattle.book.specs.HourEntries.{Changed}
 use Rattle.book.specs.declared.book.Book.{Book}
 use Rattle.book.specs.declared.records.DayRecord.{DayRecord}
 use Rattle.book.proofs.EntryCalls.{same₃, unnamed, unfit}
-use Rattle.book.proofs.HourCalls.{HourCall, refused_goes}
+use Rattle.book.proofs.HourCalls.{HourCall, refused_stepped}
 use Rattle.book.proofs.Testing.{granted_then, granted_three, then_assoc}
 
 -- two tests that are passed leave the answer to the rule
@@ -44,13 +44,13 @@ module _ (b : Book) (hour buyer mw : ℤ) (most : ℕ) (rule : Division) (lawful
   names = day_is_open state then is_hour_at state 1 hour then is_party_at state 2 buyer
 
   -- refused by its hour or buyer, or by its figure
-  pub unnamed_deployment : (e : Refusal) → refused e ≡ names → Goes b (deploy hour buyer mw most rule) (refused e) b
+  pub unnamed_deployment : (e : Refusal) → refused e ≡ names → Stepped b (deploy hour buyer mw most rule) (refused e) b
   unnamed_deployment e refuses =
       unnamed b (deploy hour buyer mw most rule) hour buyer (refused e) e lawful refl
       (is_figure_at state 3 mw then late (nat_abs hour) (nat_abs buyer) (nat_abs mw)) refl refuses
 
   module _ (named? : granted ≡ names) where
-    pub unfit_deployment : (e : Refusal) → refused e ≡ is_figure_at state 3 mw → Goes b (deploy hour buyer mw most rule) (refused e) b
+    pub unfit_deployment : (e : Refusal) → refused e ≡ is_figure_at state 3 mw → Stepped b (deploy hour buyer mw most rule) (refused e) b
     unfit_deployment e refuses =
         unfit b (deploy hour buyer mw most rule) hour buyer (refused e) e lawful refl
         (is_figure_at state 3 mw) (late (nat_abs hour) (nat_abs buyer) (nat_abs mw)) refl named? refuses
@@ -63,8 +63,10 @@ module _ (b : Book) (hour buyer mw : ℤ) (most : ℕ) (rule : Division) (lawful
           ∙ granted_then (is_figure_at state 3 mw) _ figure?
           ∙ granted_three (day_is_open state) (is_hour_at state 1 hour) (is_party_at state 2 buyer) _ named?
 
-      pub refused_deployment : (e : Refusal) → refused e ≡ late number party amount → Goes b (deploy hour buyer mw most rule) (refused e) b
-      refused_deployment e refuses = refused_goes b (deploy hour buyer mw most rule) (refused e) e lawful refl (answers (refused e) refuses)
+      pub refused_deployment : (e : Refusal) → refused e ≡ late number party amount
+          → Stepped b (deploy hour buyer mw most rule) (refused e) b
+      refused_deployment e refuses =
+          refused_stepped b (deploy hour buyer mw most rule) (refused e) e lawful refl (answers (refused e) refuses)
 
       pub deploy_call : granted ≡ late number party amount → (shares : ℕ → ℕ)
           → shares ≡ numbered (rule amount (pairs_of parties (hour_at state number) party))

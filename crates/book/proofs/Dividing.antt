@@ -1,5 +1,6 @@
 -- A division among the first places of a list. Assumes nothing.
-use Rattle.std.proofs.Common.{◌≡◌, ℕ, zero, suc, ◌-◌, ◌<◌, ◌≤◌, List, ◌++◌, length, take, drop, refl, sym, ◌∙◌, ap, subst, ⊎_elim, length-take-le, arith}
+use Rattle.std.proofs.Common.{◌≡◌, ℕ, zero, suc, ◌-◌, ◌<◌, ◌≤◌, List, ◌++◌, length, take, drop, refl, sym, ◌∙◌, ap, subst, ⊎_elim}
+use Rattle.std.proofs.Common.{length-take-le, arith}
 use Rattle.std.proofs.Math.ListN.{replicate}
 use Rattle.std.proofs.Math.Path.{fun_ext}
 use Rattle.std.proofs.lemmas.Bool.{cases_lt}
@@ -30,7 +31,8 @@ padded shares m = fun_ext by
         (cases_lt i (length shares))
 
 -- no share of a lawful division passes its amount
-share_small : (f : ℕ → ℕ) (n amount : ℕ) (shares : List ℕ) → Lawful amount (listed f n) shares → (party : ℕ) → numbered shares party ≤ amount
+share_small : (f : ℕ → ℕ) (n amount : ℕ) (shares : List ℕ) → Lawful amount (listed f n) shares → (party : ℕ)
+    → numbered shares party ≤ amount
 share_small f n amount shares lawful zero = omega arith
 share_small f n amount shares lawful (suc i) =
     ⊎_elim
@@ -43,11 +45,14 @@ module _ (n : ℕ) (claims : List ℕ) (long : length claims ≡ 12) (few : n �
     {most amount : ℕ} {moves : Moves} {before after : Division} {new : List ℕ} {a : Answer}
     (divided : Divided most moves before amount (take n claims) (take n (zeros 12)) a new after) where
   by_number : Divided most moves before amount (listed (at 0 claims) n) (take n (zeros 12)) a new after
-  by_number = subst (λ list. Divided most moves before amount list (take n (zeros 12)) a new after) (listed_front (at 0 claims) claims n (omega arith) (λ k l. refl)) divided
+  by_number =
+      subst (λ list. Divided most moves before amount list (take n (zeros 12)) a new after)
+      (listed_front (at 0 claims) claims n (omega arith) (λ k l. refl)) divided
 
   pub division_answers : a ≡ division_answer most amount (listed (at 0 claims) n) n
   division_answers =
-      by_number.answers ∙ ap (division_answer most amount (listed (at 0 claims) n)) (length-take-le n (zeros 12) (omega (arith, length-replicate {A = ℕ} 12 0)))
+      by_number.answers ∙ ap (division_answer most amount (listed (at 0 claims) n))
+      (length-take-le n (zeros 12) (omega (arith, length-replicate {A = ℕ} 12 0)))
 
   pub division_moved : Moved moves a before amount (listed (at 0 claims) n) after
   division_moved = by_number.moved

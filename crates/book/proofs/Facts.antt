@@ -31,7 +31,9 @@ sound_prop state = hlevel props
 
 -- the sizes of its figures and what they keep
 pub sound_of : (book : Book) → Sound (state_of book)
-sound_of book = ∥∥₁_elim book.led (sound_prop (state_of book)) (λ led. subst Sound (sym led.state) (sound (set_up_in book.pool) led.events led.proper led.lawful))
+sound_of book =
+    ∥∥₁_elim book.led (sound_prop (state_of book))
+    (λ led. subst Sound (sym led.state) (sound (set_up_in book.pool) led.events led.proper led.lawful))
 
 -- from 2 to 12 parties
 pub few_of : (book : Book) → book.pool.parties ≤ 12
@@ -71,7 +73,8 @@ module _ (book : Book) (tables : Tables) (most : ℕ) (meanings : ℕ → Divisi
   pub absent_of : (block : Block) (seller buyer : ℕ) → 0 < seller → (book.pool.parties < seller) ⊎ (book.pool.parties < buyer)
       → closed block seller buyer ≡ no_payment
   absent_of block seller buyer l absent = ∥∥₁_elim book.led (hlevel props) (λ led. told_of
-      (λ state prices statement. (b : Block) (s t : ℕ) → 0 < s → (state.set_up.parties < s) ⊎ (state.set_up.parties < t) → statement b s t ≡ no_payment)
+      (λ state prices statement. (b : Block) (s t : ℕ) → 0 < s → (state.set_up.parties < s) ⊎ (state.set_up.parties < t)
+      → statement b s t ≡ no_payment)
       only_parties_pay_lem led block seller buyer l absent)
 
   small_prop : (block : Block) (seller buyer : ℕ) → IsProp (SmallPayment (closed block seller buyer))

@@ -12,7 +12,8 @@ module _ (state : State) (block : Block) where
   abbrev pub held_inside : ℕ → ℕ
   held_inside hour = cond (in_block state block hour) (held_at state hour) 0
 
-  pub held_in_hour : (hour : ℕ) → 0 < hour → hour ≤ 24 → in_block state block hour ≡ true → 0 < held_at state hour → is_held_in state block ≡ true
+  pub held_in_hour : (hour : ℕ) → 0 < hour → hour ≤ 24 → in_block state block hour ≡ true → 0 < held_at state hour
+      → is_held_in state block ≡ true
   unfolding is_held_in
   held_in_hour hour l m inside held = some (term_le held_inside hour 24 l m) (ap (λ b. cond b (held_at state hour) 0) inside)
     where

@@ -11,7 +11,7 @@ use Rattle.tally.specs.Statements.{Statement, due}
 use Rattle.tally.specs.States.{State, on_hour}
 use Rattle.tally.specs.Tally.{step, done, stated, filed}
 use Rattle.book.specs.Books.{state_of}
-use Rattle.book.specs.Goes.{Goes}
+use Rattle.book.specs.Stepped.{Stepped}
 use Rattle.book.specs.HourEntries.{Changed}
 use Rattle.book.specs.Led.{Led}
 use Rattle.book.specs.Records.{hours_of, state_in}
@@ -22,7 +22,8 @@ use Rattle.book.specs.declared.records.Pool.{Pool}
 use Rattle.book.proofs.Leading.{led_next}
 
 -- what a call answers that changes one hour of a day, and what it changes
-pub record HourCall (pool : Pool) (day new : DayRecord) (year : YearRecord) (hour : ℕ) (change : Hour → Hour) (event : Event) (a : Answer) : Type 0 where
+pub record HourCall (pool : Pool) (day new : DayRecord) (year : YearRecord) (hour : ℕ) (change : Hour → Hour) (event : Event)
+    (a : Answer) : Type 0 where
   pub lawful : Lawfully event
   pub answers : a ≡ answer (state_in pool day year) event
   pub changed : Changed hour change a day new
@@ -41,7 +42,8 @@ module _ (pool : Pool) (day new : DayRecord) (year : YearRecord) (hour : ℕ) (c
   unfolding with_hours
   hour_state = ap (λ d. state_in pool d year) call.changed.rest ∙ ap with_hours call.changed.hours ∙ by a ∙ ap₂
     where
-      by : (b : Answer) → with_hours (if_granted b (replaced (hours_of day.hours) hour (change (hours_of day.hours hour))) (hours_of day.hours))
+      by : (b : Answer) → with_hours (if_granted b (replaced (hours_of day.hours) hour (change (hours_of day.hours hour)))
+          (hours_of day.hours))
           ≡ if_granted b (on_hour hour change before) before
       by granted = refl
       by (denied n f s) = refl
@@ -65,10 +67,10 @@ module _ (pool : Pool) (day new : DayRecord) (year : YearRecord) (hour : ℕ) (c
       led_next pool day new year year balances balances event led call.lawful hour_state (λ account l. unpaid _ account) call.changed.laid
 
 -- the call as the book's contract tells it
-pub hour_goes : (b : Book) (new : DayRecord) (hour : ℕ) (change : Hour → Hour) (event : Event) (a : Answer)
+pub hour_stepped : (b : Book) (new : DayRecord) (hour : ℕ) (change : Hour → Hour) (event : Event) (a : Answer)
     → HourCall b.pool b.day new b.year hour change event a → (led : ∥ Led b.pool new b.year b.balances ∥₁)
-    → Goes b event a (record { pool = b.pool; day = new; year = b.year; balances = b.balances; led = led })
-hour_goes b new hour change event a call led = record {
+    → Stepped b event a (record { pool = b.pool; day = new; year = b.year; balances = b.balances; led = led })
+hour_stepped b new hour change event a call led = record {
   lawful = call.lawful;
   answers = call.answers;
   state = hour_state b.pool b.day new b.year hour change event a call;
@@ -78,9 +80,10 @@ hour_goes b new hour change event a call led = record {
 }
 
 -- a call that is refused before it changes anything
-pub refused_goes : (b : Book) (event : Event) (a : Answer) (e : Refusal) → Lawfully event → a ≡ refused e → refused e ≡ answer (state_of b) event
-    → Goes b event a b
-refused_goes b event a e lawful told is = record {
+pub refused_stepped : (b : Book) (event : Event) (a : Answer) (e : Refusal) → Lawfully event → a ≡ refused e
+    → refused e ≡ answer (state_of b) event
+    → Stepped b event a b
+refused_stepped b event a e lawful told is = record {
   lawful = lawful;
   answers = told ∙ is;
   state = ap (λ x. if_granted x (done (state_of b) event) (state_of b)) is;

@@ -50,5 +50,6 @@ module _ (book : Book) (hour : ℕ) where
   unallotted_pair seller buyer isnt = omega (arith, pair_within kept seller buyer, sound.unheld isnt seller)
 
 -- the same of an hour, however it is written
-pub holdings_small : (book : Book) (number : ℕ) (hour : Hour) → hour ≡ hour_at (state_of book) number → (seller : ℕ) → hour.holdings seller ≤ 10000
+pub holdings_small : (book : Book) (number : ℕ) (hour : Hour) → hour ≡ hour_at (state_of book) number → (seller : ℕ)
+    → hour.holdings seller ≤ 10000
 holdings_small book number hour is seller = rw is (small_holding book number seller)

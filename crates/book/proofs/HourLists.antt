@@ -1,5 +1,6 @@
 -- Lists of hours, one more of which is written after another. Assumes nothing.
-use Rattle.std.proofs.Common.{◌≡◌, ◌≢◌, ℕ, zero, suc, ◌+◌, ◌<◌, ◌≤◌, max, Bool, true, false, cond, List, length, replicate, set, slice_index, ℤ, pos, ◌+ℤ◌, refl, sym, ◌∙◌, ap, ap₂, add-one, get_or-set_other, get_or-set_same, arith}
+use Rattle.std.proofs.Common.{◌≡◌, ◌≢◌, ℕ, zero, suc, ◌+◌, ◌<◌, ◌≤◌, max, Bool, true, false, cond, List, length, replicate, set}
+use Rattle.std.proofs.Common.{slice_index, ℤ, pos, ◌+ℤ◌, refl, sym, ◌∙◌, ap, ap₂, add-one, get_or-set_other, get_or-set_same, arith}
 use Rattle.std.proofs.lemmas.Int.{ints}
 use Rattle.tariff.specs.declared.blocks.Block.{Block}
 use Rattle.tally.specs.DayPrices.{in_block}

@@ -22,7 +22,8 @@ module _ (pool : Pool) (day new_day : DayRecord) (year new_year : YearRecord) (b
   next : Led pool day year balances → Lawfully event
       → state_in pool new_day new_year ≡ step (state_in pool day year) event
       → ((account : ℕ) → account ≤ pool.parties
-      → get_or new_balances account (pos 0) ≡ get_or balances account (pos 0) +ℤ due pool.parties (filed (state_in pool day year) event) account)
+      → get_or new_balances account (pos 0) ≡ get_or balances account (pos 0)
+      +ℤ due pool.parties (filed (state_in pool day year) event) account)
       → (All Laid day.hours → All Laid new_day.hours)
       → Led pool new_day new_year new_balances
   next led lawful state balance laid = record {
@@ -43,7 +44,8 @@ module _ (pool : Pool) (day new_day : DayRecord) (year new_year : YearRecord) (b
   pub led_next : ∥ Led pool day year balances ∥₁ → Lawfully event
       → state_in pool new_day new_year ≡ step (state_in pool day year) event
       → ((account : ℕ) → account ≤ pool.parties
-      → get_or new_balances account (pos 0) ≡ get_or balances account (pos 0) +ℤ due pool.parties (filed (state_in pool day year) event) account)
+      → get_or new_balances account (pos 0) ≡ get_or balances account (pos 0)
+      +ℤ due pool.parties (filed (state_in pool day year) event) account)
       → (All Laid day.hours → All Laid new_day.hours)
       → ∥ Led pool new_day new_year new_balances ∥₁
   led_next led lawful state balance laid = ∥∥₁_map led (λ l. next l lawful state balance laid)

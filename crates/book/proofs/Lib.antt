@@ -35,7 +35,6 @@ pub mod PairPages
 pub mod Settling
 pub mod Held
 pub mod PricedPlaces
-pub mod Asking
 pub mod Gathering
 pub mod Summing
 pub mod Entries

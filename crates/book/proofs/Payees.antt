@@ -11,8 +11,8 @@ use Rattle.tally.specs.States.{State, IsParty, hour_at}
 use Rattle.tally.specs.Years.{day_charges}
 use Rattle.tally.proofs.BlockHours.{block_zero}
 use Rattle.tally.proofs.Numbering.{total_same, total_zero, total_z_same}
-use Rattle.book.specs.CutTables.{entry_in, HasCuts, payee_part}
-use Rattle.book.specs.Records.{at}
+use Rattle.book.specs.CutTables.{HasCuts, payee_part}
+use Rattle.book.specs.Records.{at, in_row}
 
 -- of a table without an entry nothing goes to anyone
 pub part_none : (payee cover : Cover) (charged : ℕ) → charged ≡ 0 → payee_part payee cover charged ≡ 0
@@ -21,13 +21,13 @@ part_none Covered Uncovered charged e = refl
 part_none Uncovered Covered charged e = refl
 part_none Uncovered Uncovered charged e = e
 
-module _ (state : State) (rows : List (List ℕ)) (empty : (hour buyer : ℕ) → entry_in rows hour buyer ≡ 0) where
+module _ (state : State) (rows : List (List ℕ)) (empty : (hour buyer : ℕ) → in_row 0 rows hour buyer ≡ 0) where
   pub payee_none : (block : Block) (payee : Cover) (seller buyer : ℕ)
       → pos 0 ≡ block_total state block (λ hour. pos (payee_part payee ((hour_at state hour).cover seller buyer)
-      (entry_in rows hour buyer)))
+      (in_row 0 rows hour buyer)))
   payee_none block payee seller buyer =
       sym (block_zero state block (λ hour. pos (payee_part payee ((hour_at state hour).cover seller buyer)
-      (entry_in rows hour buyer)))
+      (in_row 0 rows hour buyer)))
       (λ hour i. ap pos (part_none payee ((hour_at state hour).cover seller buyer) _ (empty hour buyer))))
 
   pub day_none : 0 ≡ total (λ hour. total (at 0 (at [] rows hour)) state.set_up.parties) 24
@@ -39,13 +39,13 @@ module _ (state : State) (prices : DayPrices) (seller : ℕ) (cuts : List (List 
     (has : HasCuts state prices seller cuts) where
   pub payee_same : (block : Block) (payee : Cover) (buyer : ℕ) → IsParty state buyer
       → block_total state block (λ hour. pos (payee_part payee ((hour_at state hour).cover seller buyer)
-      (entry_in cuts hour buyer)))
+      (in_row 0 cuts hour buyer)))
       ≡ block_total state block (λ hour. pos (payee_part payee ((hour_at state hour).cover seller buyer)
       (cut_charge state prices seller hour buyer)))
   payee_same block payee buyer is =
       total_z_same
       (λ hour. cond (in_block state block hour) (pos (payee_part payee ((hour_at state hour).cover seller buyer)
-      (entry_in cuts hour buyer))) (pos 0))
+      (in_row 0 cuts hour buyer))) (pos 0))
       (λ hour. cond (in_block state block hour) (pos (payee_part payee ((hour_at state hour).cover seller buyer)
       (cut_charge state prices seller hour buyer))) (pos 0))
       24

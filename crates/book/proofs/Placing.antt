@@ -1,5 +1,6 @@
 -- Writes at a place, by number. Assumes nothing.
-use Rattle.std.proofs.Common.{◌≡◌, ◌≢◌, ℕ, zero, suc, ◌<◌, Bool, true, false, cond, eqb, List, [], map, length, get_or, set, refl, sym, ◌∙◌, ap, arith}
+use Rattle.std.proofs.Common.{◌≡◌, ◌≢◌, ℕ, zero, suc, ◌<◌, Bool, true, false, cond, eqb, List, [], map, length, get_or, set, refl, sym, ◌∙◌}
+use Rattle.std.proofs.Common.{ap, arith}
 use Rattle.std.proofs.Math.Path.{fun_ext}
 use Rattle.std.proofs.lemmas.Bool.{eqb-true, eqb-false}
 use Rattle.std.proofs.lemmas.Bool.Decides.{nat_tests}
@@ -11,7 +12,8 @@ use Rattle.tally.specs.Hours.{Hour, blank}
 use Rattle.tariff.specs.Answers.{Answer, granted, denied, if_granted}
 
 -- a figure written at a place takes the place of that number's
-pub at_set : {A : Type 0} (none : A) (list : List A) (p : ℕ) (x : A) → p < length list → at none (set list p x) ≡ replaced (at none list) (suc p) x
+pub at_set : {A : Type 0} (none : A) (list : List A) (p : ℕ) (x : A) → p < length list
+    → at none (set list p x) ≡ replaced (at none list) (suc p) x
 at_set none list p x l = fun_ext by
   where
     at_place : (i : ℕ) (b : Bool) → eqb (suc i) (suc p) ≡ b → get_or (set list p x) i none ≡ cond b x (get_or list i none)
@@ -56,21 +58,24 @@ replaced_same f k = fun_ext (λ i. by i (eqb i k) refl)
     by i false e = refl
 
 -- a record of a day by its number
-pub hour_read : (records : List HourRecord) (p : ℕ) (none : HourRecord) → p < length records → hour_of (get_or records p none) ≡ hours_of records (suc p)
+pub hour_read : (records : List HourRecord) (p : ℕ) (none : HourRecord) → p < length records
+    → hour_of (get_or records p none) ≡ hours_of records (suc p)
 hour_read records p none l = sym (get_or-map hour_of records p none blank l)
 
 -- the records of a day by number, and one of them written
 pub hours_set : (records : List HourRecord) (p : ℕ) (new : HourRecord) → p < length records
     → hours_of (set records p new) ≡ replaced (hours_of records) (suc p) (hour_of new)
 hours_set records p new l =
-    ap (at blank) (map-set hour_of records p new) ∙ at_set blank (map hour_of records) p (hour_of new) (let e = length-map records hour_of in omega arith)
+    ap (at blank) (map-set hour_of records p new)
+    ∙ at_set blank (map hour_of records) p (hour_of new) (let e = length-map records hour_of in omega arith)
 
 -- an entry in one hour's record, as the hours by number have it
 pub hours_entered : (records : List HourRecord) (p : ℕ) (none new : HourRecord) (a : Answer) (change : Hour → Hour) → p < length records
     → hour_of new ≡ if_granted a (change (hour_of (get_or records p none))) (hour_of (get_or records p none))
     → hours_of (set records p new)
     ≡ if_granted a (replaced (hours_of records) (suc p) (change (hours_of records (suc p)))) (hours_of records)
-hours_entered records p none new a change l e = hours_set records p new l ∙ ap (replaced (hours_of records) (suc p)) (e ∙ ap both (hour_read records p none l)) ∙ by a
+hours_entered records p none new a change l e =
+    hours_set records p new l ∙ ap (replaced (hours_of records) (suc p)) (e ∙ ap both (hour_read records p none l)) ∙ by a
   where
     both : Hour → Hour
     both old = if_granted a (change old) old

@@ -3,7 +3,8 @@ use Rattle.std.proofs.Common.{◌≡◌, ℕ, ◌+◌, ◌<◌, ◌≤◌, true,
 use Rattle.std.proofs.Math.Path.{fun_ext}
 use Rattle.std.proofs.lemmas.Bool.Decides.{nat_tests}
 use Rattle.tariff.specs.Division.{Division}
-use Rattle.tally.specs.Allotment.{counted_offer, surplus, requested, offered, offers_suffice, allot_total, allot_claims, held_whole, allotment}
+use Rattle.tally.specs.Allotment.{counted_offer, surplus, requested, offered, offers_suffice, allot_total, allot_claims, held_whole}
+use Rattle.tally.specs.Allotment.{allotment}
 use Rattle.tally.specs.Hours.{Hour}
 use Rattle.tally.specs.Numbered.{listed, numbered}
 

@@ -1,5 +1,6 @@
 -- Balances, account by account. Assumes nothing.
-use Rattle.std.proofs.Common.{◌≡◌, ◌≢◌, ℕ, ◌+◌, ◌<◌, ◌≤◌, List, length, get_or, set, ℤ, pos, ◌+ℤ◌, nat_abs, w64, SFits, to_z, of_z, ap₂, ◌∙◌, get_or-set_other, length-set, refl, arith}
+use Rattle.std.proofs.Common.{◌≡◌, ◌≢◌, ℕ, ◌+◌, ◌<◌, ◌≤◌, List, length, get_or, set, ℤ, pos, ◌+ℤ◌, nat_abs, w64, SFits, to_z, of_z, ap₂}
+use Rattle.std.proofs.Common.{◌∙◌, get_or-set_other, length-set, refl, arith}
 use Rattle.std.proofs.lemmas.Int.{ints}
 use Rattle.book.proofs.RowWrites.{place_next}
 use Rattle.book.proofs.Summing.{added, added_fits}
@@ -29,7 +30,8 @@ module _ (old : List ℤ) (gets : ℕ → ℤ) (count : ℕ) (new : List ℤ) (m
   pub post_fits : SFits w64 (to_z w64 (of_z w64 balance) +ℤ to_z w64 (of_z w64 more))
   post_fits = added_fits balance more balance_size (omega arith)
 
-  pub posted_more : Posted old gets (count + 1) (set new count (to_z w64 (of_z w64 (to_z w64 (of_z w64 balance) +ℤ to_z w64 (of_z w64 more)))))
+  pub posted_more : Posted old gets (count + 1)
+      (set new count (to_z w64 (of_z w64 (to_z w64 (of_z w64 balance) +ℤ to_z w64 (of_z w64 more)))))
   posted_more =
       let e = added balance more balance_size (omega arith) ∙ together in
       record {

@@ -6,7 +6,7 @@ use Rattle.tariff.specs.declared.blocks.Block.{Block}
 use Rattle.tariff.specs.declared.blocks.Block.TheVariants.{Heavy, Light}
 use Rattle.tariff.specs.declared.blocks.DayKind.{DayKind}
 use Rattle.tariff.specs.declared.prices.HourPrices.{HourPrices}
-use Rattle.book.specs.HourPricing.{block_price, priced_at}
+use Rattle.book.specs.HourPricing.{by_block, priced_at}
 use Rattle.book.proofs.RowWrites.{place_next}
 
 -- a list that has the wanted elements up to a place, and one more written there
@@ -16,15 +16,18 @@ pub places_more : {A : Type 0} (wanted : ℕ → A) (list : List A) (place : ℕ
 places_more {A} wanted list place new l below here k h none =
     place_next none list place new (λ i x. x ≡ wanted i) l here (λ i b. below i b none) k h
 
-pub block_price_size : (most : ℕ) (heavy light : ℤ) (block : Block) → nat_abs heavy ≤ most → nat_abs light ≤ most → nat_abs (block_price heavy light block) ≤ most
+pub block_price_size : (most : ℕ) (heavy light : ℤ) (block : Block) → nat_abs heavy ≤ most → nat_abs light ≤ most
+    → nat_abs (by_block heavy light block) ≤ most
 block_price_size most heavy light Heavy h l = h
 block_price_size most heavy light Light h l = l
 
 -- the prices of an hour by its figures
-pub priced_here : (kind : DayKind) (heavy light : ℤ) (real_time : List ℤ) (factors : List ℕ) (place : ℕ) (day_ahead : ℤ) (block : Block) (new : HourPrices)
-    → block ≡ block_of kind (suc place) → day_ahead ≡ block_price heavy light block
+pub priced_here : (kind : DayKind) (heavy light : ℤ) (real_time : List ℤ) (factors : List ℕ) (place : ℕ) (day_ahead : ℤ) (block : Block)
+    (new : HourPrices)
+    → block ≡ block_of kind (suc place) → day_ahead ≡ by_block heavy light block
     → new ≡ hour_prices initial_terms day_ahead (get_or real_time place (pos 0)) (get_or factors place 0)
     → new ≡ priced_at kind heavy light real_time factors (suc place)
 unfolding priced_at
 priced_here kind heavy light real_time factors place day_ahead block new b d e =
-    e ∙ ap (λ price. hour_prices initial_terms price (get_or real_time place (pos 0)) (get_or factors place 0)) (d ∙ ap (block_price heavy light) b)
+    e ∙ ap (λ price. hour_prices initial_terms price (get_or real_time place (pos 0)) (get_or factors place 0))
+    (d ∙ ap (by_block heavy light) b)

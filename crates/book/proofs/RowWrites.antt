@@ -1,5 +1,6 @@
 -- Rows into which one entry is written after another. Assumes nothing.
-use Rattle.std.proofs.Common.{◌≡◌, ◌≢◌, ℕ, zero, suc, ◌+◌, ◌<◌, ◌≤◌, List, length, get_or, set, subst, refl, sym, ◌∙◌, ap, get_or-set_other, get_or-set_same, below_more, arith}
+use Rattle.std.proofs.Common.{◌≡◌, ◌≢◌, ℕ, zero, suc, ◌+◌, ◌<◌, ◌≤◌, List, length, get_or, set, subst, refl, sym, ◌∙◌, ap, get_or-set_other}
+use Rattle.std.proofs.Common.{get_or-set_same, below_more, arith}
 use Rattle.std.proofs.lemmas.Bool.{ne_eqb}
 use Rattle.tally.specs.Numbered.{replaced}
 use Rattle.tally.proofs.SoundHours.{replaced_has}

@@ -1,5 +1,6 @@
 -- Rows and tables of payments, party by party. Assumes nothing.
-use Rattle.std.proofs.Common.{◌≡◌, ℕ, zero, suc, ◌+◌, ◌<◌, ◌≤◌, Bool, true, false, cond, ltb, ◌&&◌, List, [], ◌∷◌, map, length, get_or, set, replicate, refl, sym, ◌∙◌, ap, arith}
+use Rattle.std.proofs.Common.{◌≡◌, ℕ, zero, suc, ◌+◌, ◌<◌, ◌≤◌, Bool, true, false, cond, ltb, ◌&&◌, List, [], ◌∷◌, map, length, get_or, set}
+use Rattle.std.proofs.Common.{replicate, refl, sym, ◌∙◌, ap, arith}
 use Rattle.std.proofs.lemmas.Bool.{cases_lt, ltb-true, ltb-false}
 use Rattle.std.proofs.lemmas.List.{length-set, get_or-set_other}
 use mathlib.Core.Logic.{⊎_elim}
@@ -12,8 +13,8 @@ use Rattle.book.proofs.Blanks.{at_row}
 use Rattle.book.proofs.RowWrites.{place_next}
 use Rattle.book.specs.Pages.{nothing}
 use Rattle.book.specs.Payments.{payment_of}
-use Rattle.book.specs.Settled.{paid, paid_at, PaidIn}
-use Rattle.book.specs.declared.payment.Payment.{Payment as Entry}
+use Rattle.book.specs.PaidTables.{paid, paid_at, PaidIn}
+use Rattle.book.specs.declared.payment.Payment.{Payment as PageEntry}
 
 -- what a place has, whether or not it is a party's
 pub paid_at_place : (state : State) (prices : DayPrices) (block : Block) (seller buyer share : ℕ) (payment : Payment)
@@ -30,16 +31,18 @@ paid_at_place state prices block seller buyer share payment both no_seller no_bu
     by false e b f = no_seller (ltb-false _ _ e)
 
 -- an entry of a row, by number
-pub row_read : (row : List Entry) (place : ℕ) → get_or (map payment_of row) place no_payment ≡ payment_of (get_or row place nothing)
+pub row_read : (row : List PageEntry) (place : ℕ) → get_or (map payment_of row) place no_payment ≡ payment_of (get_or row place nothing)
 row_read [] place = refl
 row_read (x ∷ xs) zero = refl
 row_read (x ∷ xs) (suc place) = row_read xs place
 
 -- a table of which the rows of the first sellers are written
-pub record Rows (state : State) (prices : DayPrices) (block : Block) (shares : ℕ → ℕ → ℕ) (count : ℕ) (rows : List (List Entry)) : Type 0 where
+pub record Rows (state : State) (prices : DayPrices) (block : Block) (shares : ℕ → ℕ → ℕ) (count : ℕ)
+    (rows : List (List PageEntry)) : Type 0 where
   pub long : length rows ≡ 12
   pub done : (seller buyer : ℕ) → seller < count → buyer < 12
-      → payment_of (get_or (get_or rows seller []) buyer nothing) ≡ paid_at state prices block seller buyer (shares (suc seller) (suc buyer))
+      → payment_of (get_or (get_or rows seller []) buyer nothing)
+      ≡ paid_at state prices block seller buyer (shares (suc seller) (suc buyer))
   pub rest : (seller buyer : ℕ) → count ≤ seller → payment_of (get_or (get_or rows seller []) buyer nothing) ≡ no_payment
 
 -- of which none is
@@ -51,17 +54,19 @@ rows_none state prices block shares = record {
   rest = λ seller buyer l. ap payment_of (at_row 12 12 nothing (suc seller) (suc buyer));
 }
 
-module _ (state : State) (prices : DayPrices) (block : Block) (shares : ℕ → ℕ → ℕ) (count : ℕ) (rows : List (List Entry))
+module _ (state : State) (prices : DayPrices) (block : Block) (shares : ℕ → ℕ → ℕ) (count : ℕ) (rows : List (List PageEntry))
     (old : Rows state prices block shares count rows) where
   -- one more row
-  pub rows_more : (row : List Entry) → count < 12
-      → ((buyer : ℕ) → buyer < 12 → payment_of (get_or row buyer nothing) ≡ paid_at state prices block count buyer (shares (suc count) (suc buyer)))
+  pub rows_more : (row : List PageEntry) → count < 12
+      → ((buyer : ℕ) → buyer < 12 → payment_of (get_or row buyer nothing)
+      ≡ paid_at state prices block count buyer (shares (suc count) (suc buyer)))
       → Rows state prices block shares (count + 1) (set rows count row)
   rows_more row l new = record {
     long = length-set rows count row ∙ old.long;
     done = λ seller buyer m b.
         place_next [] rows count row
-        (λ s (r : List Entry). (k : ℕ) → k < 12 → payment_of (get_or r k nothing) ≡ paid_at state prices block s k (shares (suc s) (suc k)))
+        (λ s (r : List PageEntry). (k : ℕ) → k < 12 → payment_of (get_or r k nothing)
+        ≡ paid_at state prices block s k (shares (suc s) (suc k)))
         (rw old.long l) new (λ s p k q. old.done s k p q) seller m buyer b;
     rest = λ seller buyer m.
         ap (λ r. payment_of (get_or r buyer nothing)) (get_or-set_other rows count seller row [] (λ e. absurd (omega arith)))
@@ -79,4 +84,5 @@ module _ (state : State) (prices : DayPrices) (block : Block) (shares : ℕ → 
           → paid_at state prices block seller buyer (shares (suc seller) (suc buyer)) ≡ no_payment
       unknown true f n = absurd (omega (arith, ltb-true seller state.set_up.parties f))
       unknown false f n =
-          ap (λ b. cond (b && ltb buyer state.set_up.parties) (paid state prices block (suc seller) (suc buyer) (shares (suc seller) (suc buyer))) no_payment) f
+          ap (λ b. cond (b && ltb buyer state.set_up.parties)
+          (paid state prices block (suc seller) (suc buyer) (shares (suc seller) (suc buyer))) no_payment) f

@@ -1,5 +1,6 @@
 -- Divisions of a block one after another, and of both blocks. Assumes nothing.
-use Rattle.std.proofs.Common.{◌≡◌, ℕ, zero, suc, ◌+◌, ◌-◌, ◌<◌, ◌≤◌, Bool, true, false, cond, ltb, eqb, List, [], length, get_or, set, refl, sym, subst, ap, ap₂, ◌∙◌, ⊎_elim, add-one, below_more, arith}
+use Rattle.std.proofs.Common.{◌≡◌, ℕ, zero, suc, ◌+◌, ◌-◌, ◌<◌, ◌≤◌, Bool, true, false, cond, ltb, eqb, List, [], length, get_or, set, refl}
+use Rattle.std.proofs.Common.{sym, subst, ap, ap₂, ◌∙◌, ⊎_elim, add-one, below_more, arith}
 use Rattle.std.proofs.lemmas.Bool.{cases_lt}
 use Rattle.std.proofs.lemmas.Bool.Decides.{nat_tests}
 use Rattle.tariff.specs.Answers.{Answer, granted, ◌then◌, in_order, refused}
@@ -29,7 +30,8 @@ extended_old : (meanings : ℕ → Division) (count : ℕ) (next : Division) (k 
 extended_old meanings count next k l = let e : ltb count k ≡ false = grind (arith, nat_tests) in ap (λ b. cond b next (meanings k)) e
 
 extended_new : (meanings : ℕ → Division) (count : ℕ) (next : Division) → extended meanings count next (suc count) ≡ next
-extended_new meanings count next = let e : ltb count (suc count) ≡ true = grind (arith, nat_tests) in ap (λ b. cond b next (meanings (suc count))) e
+extended_new meanings count next =
+    let e : ltb count (suc count) ≡ true = grind (arith, nat_tests) in ap (λ b. cond b next (meanings (suc count))) e
 
 module _ (most : ℕ) (moves : Moves) (amounts : ℕ → ℕ) (claims : ℕ → List ℕ) (parties : ℕ) (first : Division) where
   -- before the first
@@ -44,7 +46,8 @@ module _ (most : ℕ) (moves : Moves) (amounts : ℕ → ℕ) (claims : ℕ → 
   }
 
   -- one more
-  pub divisions_more : (count : ℕ) (rows : List (List ℕ)) (last next : Division) (row : List ℕ) → Divisions most moves amounts claims parties count first rows last
+  pub divisions_more : (count : ℕ) (rows : List (List ℕ)) (last next : Division) (row : List ℕ)
+      → Divisions most moves amounts claims parties count first rows last
       → count < length rows → LawfulRule most next
       → Turned moves (amounts count) (claims count) last next
       → ((buyer : ℕ) → buyer < parties → get_or row buyer 0 ≡ share_of (amounts count) last (claims count) buyer)
@@ -127,14 +130,16 @@ module _ (most : ℕ) (moves : Moves) (state : State) (prices : DayPrices) (firs
           (cases_lt t parties)
 
       -- turn by turn
-      heavy_turn : (seller : ℕ) → seller < parties → (meanings (suc seller - 1) ≡ h.meanings seller) × (meanings (suc seller - 1 + 1) ≡ h.meanings (suc seller))
+      heavy_turn : (seller : ℕ) → seller < parties → (meanings (suc seller - 1) ≡ h.meanings seller)
+          × (meanings (suc seller - 1 + 1) ≡ h.meanings (suc seller))
       heavy_turn seller m =
           let e : suc seller - 1 ≡ seller = omega arith in
           let f : suc seller - 1 + 1 ≡ suc seller = omega arith in
           (ap meanings e ∙ in_heavy seller (omega arith), ap meanings f ∙ in_heavy (suc seller) (omega arith))
 
       light_turn : (seller : ℕ)
-          → (meanings (parties + (suc seller - 1)) ≡ l.meanings seller) × (meanings (parties + (suc seller - 1) + 1) ≡ l.meanings (suc seller))
+          → (meanings (parties + (suc seller - 1)) ≡ l.meanings seller)
+          × (meanings (parties + (suc seller - 1) + 1) ≡ l.meanings (suc seller))
       light_turn seller =
           let e : parties + (suc seller - 1) ≡ parties + seller = omega arith in
           let f : parties + (suc seller - 1) + 1 ≡ parties + suc seller = omega arith in
@@ -170,7 +175,8 @@ pub both_tested : (state : State) (prices : DayPrices) (most limit : ℕ) (a : A
     → a ≡ in_order (sharing_answer state prices most Light) state.set_up.parties
     → a ≡ sharings_answer state prices limit
 both_tested state prices most limit a e heavy light =
-    light ∙ ap (λ b. b then in_order (sharing_answer state prices most Light) state.set_up.parties) heavy ∙ ap (sharings_answer state prices) e
+    light ∙ ap (λ b. b then in_order (sharing_answer state prices most Light) state.set_up.parties) heavy
+    ∙ ap (sharings_answer state prices) e
 
 -- those of which one of the heavy block's refuses
 pub first_tested : (state : State) (prices : DayPrices) (most limit : ℕ) (refusal : Refusal) → most ≡ limit

@@ -15,12 +15,15 @@ use Rattle.book.proofs.DayPriced.{small_prices}
 use Rattle.book.proofs.Facts.{sound_of}
 
 module _ (book : Book) (prices : PricedDay) (block : Block) (place : ℕ) (party : place < book.pool.parties) where
-  pub handed_of : Handed (make_whole (state_of book) (prices_in prices) block (suc place)) (make_whole_claims (state_of book) block (suc place)) book.pool.parties
-  handed_of = make_wholes_at (state_of book) (sound_of book) (prices_in prices) (small_prices prices) block (suc place) (omega arith, omega arith)
+  pub handed_of : Handed (make_whole (state_of book) (prices_in prices) block (suc place))
+      (make_whole_claims (state_of book) block (suc place)) book.pool.parties
+  handed_of =
+      make_wholes_at (state_of book) (sound_of book) (prices_in prices) (small_prices prices) block (suc place) (omega arith, omega arith)
 
   -- so only the claims are counted, where there is something to divide
   pub sharing_counted : (most : ℕ) → sharing_answer (state_of book) (prices_in prices) most block (suc place)
-      ≡ cond (eqb (make_whole (state_of book) (prices_in prices) block (suc place)) 0) granted (count_answer most (make_whole_claims (state_of book) block (suc place)))
+      ≡ cond (eqb (make_whole (state_of book) (prices_in prices) block (suc place)) 0) granted
+      (count_answer most (make_whole_claims (state_of book) block (suc place)))
   sharing_counted most =
       ap (λ a. cond (eqb (make_whole (state_of book) (prices_in prices) block (suc place)) 0) granted a)
       (only_counted _ (make_whole_claims (state_of book) block (suc place)) book.pool.parties most handed_of)

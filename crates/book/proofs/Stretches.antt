@@ -33,7 +33,8 @@ module _ (list : List ℕ) (long : length list ≡ 12) where
   stretch_past c d k l = rw (total_past k l) (empty_overlap (total (at 0 list) k) c d)
 
   -- so a row that has each seller's has all
-  pub row_all : (row : List ℕ) (c d count : ℕ) → 12 ≤ count → Filled 0 row (stretch (at 0 list) c d) count → at 0 row ≡ stretch (at 0 list) c d
+  pub row_all : (row : List ℕ) (c d count : ℕ) → 12 ≤ count → Filled 0 row (stretch (at 0 list) c d) count
+      → at 0 row ≡ stretch (at 0 list) c d
   row_all row c d count m filled = filled_all 0 row (stretch (at 0 list) c d) count m filled (stretch_first c d) (stretch_past c d)
 
 -- the first rows of a table of pairs

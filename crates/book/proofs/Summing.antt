@@ -1,5 +1,6 @@
 -- Signed sums, term by term. Assumes nothing.
-use Rattle.std.proofs.Common.{◌≡◌, ℕ, suc, ◌+◌, ◌*◌, ◌<◌, ◌≤◌, ℤ, pos, ◌+ℤ◌, nat_abs, w64, SFits, to_z, of_z, sym, ap, ap₂, ◌∙◌, mul-le-mul_right, arith}
+use Rattle.std.proofs.Common.{◌≡◌, ℕ, suc, ◌+◌, ◌*◌, ◌<◌, ◌≤◌, ℤ, pos, ◌+ℤ◌, nat_abs, w64, SFits, to_z, of_z, sym, ap, ap₂, ◌∙◌}
+use Rattle.std.proofs.Common.{mul-le-mul_right, arith}
 use Rattle.std.proofs.lemmas.Int.{ints, to_z-of_z}
 use Rattle.tally.specs.Numbered.{total_z}
 use Rattle.tally.proofs.Numbering.{total_z_none, add_size}

@@ -6,7 +6,8 @@ use Rattle.std.proofs.lemmas.List.Elements.{All-head, All-tail}
 use Rattle.std.specs.List.{All}
 use Rattle.tariff.specs.Answers.{Answer, granted, denied, if_granted}
 use Rattle.tally.specs.Denials.{answer}
-use Rattle.tally.specs.Events.{Event, open_day, enter_result, enter_offer, enter_request, allot_hour, deploy, enter_miss, close_day, void_day, start_year, AllLawful}
+use Rattle.tally.specs.Events.{Event, open_day, enter_result, enter_offer, enter_request, allot_hour, deploy, enter_miss, close_day}
+use Rattle.tally.specs.Events.{void_day, start_year, AllLawful}
 use Rattle.tally.specs.Hours.{blank}
 use Rattle.tally.specs.Pairs.{pair}
 use Rattle.tally.specs.Statements.{Statement, due}
@@ -18,7 +19,7 @@ use Rattle.book.specs.Books.{state_of, balance, pairs_at}
 use Rattle.book.specs.Histories.{Made, tally_of, stated_by, statements_of, statements_of_year}
 use Rattle.book.specs.Led.{Laid}
 use Rattle.book.specs.Records.{by_seller, hour_of}
-use Rattle.book.specs.Runs.{FilledBy, Went, Run, begun, went}
+use Rattle.book.specs.Runs.{FilledBy, CallMade, Run, begun, called}
 use Rattle.book.specs.declared.book.Book.{Book}
 use Rattle.book.specs.declared.records.HourRecord.{HourRecord}
 use Rattle.book.proofs.Alike.{Alike, none, more, alike_append}
@@ -59,7 +60,8 @@ pub record Traced (set_up : SetUp) (history : List Made) (book : Book) : Type 0 
   pub proper : Proper set_up
   pub lawful : AllLawful (map (λ call. call.event) history)
   pub state : state_of book ≡ (tally_of set_up history).state
-  pub paid : (account : ℕ) → account ≤ set_up.parties → balance book account ≡ due set_up.parties (tally_of set_up history).statements account
+  pub paid : (account : ℕ) → account ≤ set_up.parties
+      → balance book account ≡ due set_up.parties (tally_of set_up history).statements account
   pub stated : Alike (statements_of history) (tally_of set_up history).statements
   pub of_year : Alike (statements_of_year history) (tally_of set_up history).of_year
 
@@ -69,29 +71,31 @@ parties_traced set_up history book traced =
     ap (λ (s : State). s.set_up.parties) traced.state
     ∙ ap (λ (s : SetUp). s.parties) (tallied_set_up set_up (map (λ call. call.event) history))
 
-module _ (set_up : SetUp) (history : List Made) (book : Book) (call : Made) (traced : Traced set_up history book) (call_went : Went book call) where
+module _ (set_up : SetUp) (history : List Made) (book : Book) (call : Made) (traced : Traced set_up history book)
+    (call_made : CallMade book call) where
   abbrev tally : Tally
   tally = tally_of set_up history
 
   pub answered : call.answered ≡ answer tally.state call.event
-  answered = call_went.goes.answers ∙ ap (λ s. answer s call.event) traced.state
+  answered = call_made.stepped.answers ∙ ap (λ s. answer s call.event) traced.state
 
   made : Alike (if_granted call.answered (stated_by call.event call.pages) []) (filed tally.state call.event)
   made =
-      subst (λ x. Alike (if_granted call.answered (stated_by call.event call.pages) []) (if_granted x (stated tally.state call.event) [])) answered
+      subst (λ x. Alike (if_granted call.answered (stated_by call.event call.pages) []) (if_granted x (stated tally.state call.event) []))
+      answered
       (alike_made tally.state call.event call.answered call.pages
-      (subst (λ s. FilledBy s call.event call.answered call.pages) traced.state call_went.filled))
+      (subst (λ s. FilledBy s call.event call.answered call.pages) traced.state call_made.filled))
 
   pub traced_next : Traced set_up (call ∷ history) call.left
   traced_next = record {
     proper = traced.proper;
-    lawful = (call_went.goes.lawful, traced.lawful);
-    state = call_went.goes.state ∙ ap (λ s. step s call.event) traced.state;
+    lawful = (call_made.stepped.lawful, traced.lawful);
+    state = call_made.stepped.state ∙ ap (λ s. step s call.event) traced.state;
     paid = λ account l.
         let p = parties_traced set_up history book traced in
         let n = set_up.parties in
         let g : balance call.left account ≡ balance book account +ℤ due n (filed tally.state call.event) account =
-        call_went.goes.balances account (rw p l)
+        call_made.stepped.balances account (rw p l)
         ∙ ap (λ m. balance book account +ℤ due m (filed (state_of book) call.event) account) p
         ∙ ap (λ s. balance book account +ℤ due n (filed s call.event) account) traced.state in
         let o = traced.paid account l in
@@ -115,13 +119,15 @@ traced_begun set_up book start = record {
   of_year = none;
 }
 
-pub run_traced : {set_up : SetUp} {start : Book} {history : List Made} {book : Book} → Run set_up start history book → Traced set_up history book
+pub run_traced : {set_up : SetUp} {start : Book} {history : List Made} {book : Book} → Run set_up start history book
+    → Traced set_up history book
 run_traced {set_up} {start} (begun fresh) = traced_begun set_up start fresh
-run_traced {set_up} (went history book call before step) = traced_next set_up history book call (run_traced before) step
+run_traced {set_up} (called history book call before step) = traced_next set_up history book call (run_traced before) step
 
 laid_at : (records : List HourRecord) → All Laid records → (place : ℕ) → (get_or (map hour_of records) place blank).allotted ≡ true
     → (seller buyer : ℕ)
-    → by_seller 0 (get_or (map (λ record_. record_.pairs) records) place []) seller buyer ≡ pair (get_or (map hour_of records) place blank) seller buyer
+    → by_seller 0 (get_or (map (λ record_. record_.pairs) records) place []) seller buyer
+    ≡ pair (get_or (map hour_of records) place blank) seller buyer
 laid_at [] laid place is seller buyer = absurd (false≢true is)
 laid_at (r ∷ rs) laid zero is seller buyer = All-head Laid r rs laid is seller buyer
 laid_at (r ∷ rs) laid (suc place) is seller buyer = laid_at rs (All-tail Laid r rs laid) place is seller buyer

@@ -4,9 +4,11 @@ use Rattle.tally.specs.States.{State}
 use Rattle.book.specs.Records.{at, by_seller, state_in}
 use Rattle.book.specs.declared.book.Book.{Book}
 
+-- what its records say
 abbrev pub state_of : Book → State
 state_of book = state_in book.pool book.day book.year
 
+-- what an account has
 abbrev pub balance : Book → ℕ → ℤ
 balance book account = slice_index_or book.balances account (pos 0)
 

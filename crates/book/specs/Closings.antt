@@ -10,7 +10,7 @@ use Rattle.tally.specs.States.{State, IsParty}
 use Rattle.tally.specs.Statements.{statement_of}
 use Rattle.tally.specs.Turns.{Turns}
 use Rattle.tally.specs.Years.{day_charges}
-use Rattle.book.specs.Closes.{SamePages}
+use Rattle.book.specs.SameStatement.{SameStatement}
 use Rattle.book.specs.Payments.{statement_in}
 use Rattle.book.specs.Records.{at}
 use Rattle.book.specs.declared.payment.Payment.{Payment}
@@ -28,7 +28,7 @@ pub record SettledBy (tables : Tables) (most : ℕ) (moves : Moves) (state : Sta
   pub meanings : ℕ → Division
   pub lawful : (turn : ℕ) → LawfulRule most (meanings turn)
   pub turns : Turns moves state (needed_prices state tables) meanings first last
-  pub statement : SamePages (statement_in heavy light) (statement_of state (needed_prices state tables) meanings)
+  pub statement : SameStatement (statement_in heavy light) (statement_of state (needed_prices state tables) meanings)
   pub charged : (seller : ℕ) → IsParty state seller → at 0 charges seller
       ≡ day_charges state (needed_prices state tables) seller
   pub small : (seller : ℕ) → at 0 charges seller ≤ 144000000000000

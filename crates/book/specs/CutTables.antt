@@ -1,5 +1,5 @@
 -- A seller's charges of a day, in a table with a row for each hour and an entry for each buyer. Assumes nothing.
-use Rattle.std.specs.Prelude.{◌≡◌, ℕ, ◌<◌, ◌≤◌, ◌-◌, List, []}
+use Rattle.std.specs.Prelude.{◌≡◌, ℕ, ◌<◌, ◌≤◌, ◌-◌, List}
 use Rattle.tariff.specs.Blocks.{hours_of_day}
 use Rattle.tariff.specs.declared.charges.Cover.{Cover}
 use Rattle.tariff.specs.declared.charges.Cover.TheVariants.{Covered, Uncovered}
@@ -7,26 +7,22 @@ use Rattle.tally.specs.Charges.{allowance, charge, cut_charge, pool_part, buyer_
 use Rattle.tally.specs.DayPrices.{DayPrices}
 use Rattle.tally.specs.Numbered.{total}
 use Rattle.tally.specs.States.{State, IsParty}
-use Rattle.book.specs.Records.{at}
+use Rattle.book.specs.Records.{in_row}
 
 -- what the ceiling still allows after the charges of some hours, taken uncut: once one was cut, nothing is left anyhow
 abbrev pub left_after : State → DayPrices → (seller hours : ℕ) → ℕ
 left_after state prices seller hours =
     allowance state seller - total (λ hour. total (charge state prices seller hour) state.set_up.parties) hours
 
--- what a table has for an hour and a buyer
-abbrev pub entry_in : List (List ℕ) → (hour buyer : ℕ) → ℕ
-entry_in rows hour buyer = at 0 (at [] rows hour) buyer
-
 -- no entry is above what one pair can be charged in an hour
-abbrev pub SmallEntries : List (List ℕ) → Type 0
-SmallEntries rows = (hour buyer : ℕ) → entry_in rows hour buyer ≤ 500000000000
+abbrev pub SmallCuts : List (List ℕ) → Type 0
+SmallCuts rows = (hour buyer : ℕ) → in_row 0 rows hour buyer ≤ 500000000000
 
 -- each entry is the charge as it was cut
 abbrev pub HasCuts : State → DayPrices → (seller : ℕ) → List (List ℕ) → Type 0
 HasCuts state prices seller rows =
     (hour buyer : ℕ) → 0 < hour → hour ≤ hours_of_day → IsParty state buyer
-    → entry_in rows hour buyer ≡ cut_charge state prices seller hour buyer
+    → in_row 0 rows hour buyer ≡ cut_charge state prices seller hour buyer
 
 -- what goes to the pool is what others covered, and to the buyer what nobody covered
 abbrev pub payee_part : Cover → Cover → ℕ → ℕ

@@ -2,7 +2,8 @@
 use Rattle.std.specs.Prelude.{ℕ}
 use Rattle.tariff.specs.Division.{Division}
 use Rattle.tariff.specs.Tables.{Tables}
-use Rattle.tally.specs.Events.{Event, open_day, enter_result, enter_offer, enter_request, allot_hour, deploy, enter_miss, close_day, void_day, start_year}
+use Rattle.tally.specs.Events.{Event, open_day, enter_result, enter_offer, enter_request, allot_hour, deploy, enter_miss, close_day}
+use Rattle.tally.specs.Events.{void_day, start_year}
 use Rattle.book.specs.declared.entry.Entry.{Entry}
 use Rattle.book.specs.declared.entry.Entry.TheVariants.{Open, Result, Offer, Request, Allot, Deploy, Miss, Close, Void, Year}
 

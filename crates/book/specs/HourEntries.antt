@@ -10,21 +10,23 @@ use Rattle.book.specs.Led.{Laid}
 use Rattle.book.specs.Records.{hours_of}
 use Rattle.book.specs.declared.records.DayRecord.{DayRecord}
 use Rattle.book.specs.declared.hours.HourEntry.{HourEntry}
-use Rattle.book.specs.declared.hours.HourEntry.TheVariants.{Surplus, Offer, Request, Miss}
+use Rattle.book.specs.declared.hours.HourEntry.TheVariants.{Result, Offer, Request, Miss}
 
-abbrev pub entry_answer : ℕ → HourEntry → Hour → Answer
-entry_answer number (Surplus party mw) hour = require (not hour.allotted) (HourAllotted number)
-entry_answer number (Offer party mw) hour = require (not hour.allotted) (HourAllotted number)
-entry_answer number (Request party mw) hour =
+-- an entry is refused by whether its hour was allotted, and then by its figure
+abbrev pub hour_answer : ℕ → HourEntry → Hour → Answer
+hour_answer number (Result party mw) hour = require (not hour.allotted) (HourAllotted number)
+hour_answer number (Offer party mw) hour = require (not hour.allotted) (HourAllotted number)
+hour_answer number (Request party mw) hour =
     require (not hour.allotted) (HourAllotted number)
     then require (nat_le mw (shortfall hour (suc party.place))) (AboveShortfall number (suc party.place))
-entry_answer number (Miss seller buyer mwh cover) hour =
+hour_answer number (Miss seller buyer mwh cover) hour =
     require hour.allotted (HourNotAllotted number)
     then require (nat_le mwh (hour.deployed (suc seller.place) (suc buyer.place)))
     (AboveDeployment (suc seller.place) (suc buyer.place))
 
+-- what an entry changes of its hour
 abbrev pub entered_by : HourEntry → Hour → Hour
-entered_by (Surplus party mw) = with_result (suc party.place) mw
+entered_by (Result party mw) = with_result (suc party.place) mw
 entered_by (Offer party mw) = with_offer (suc party.place) mw
 entered_by (Request party mw) = with_request (suc party.place) mw
 entered_by (Miss seller buyer mwh cover) = with_miss (suc seller.place) (suc buyer.place) mwh cover

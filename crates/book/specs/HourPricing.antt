@@ -9,16 +9,18 @@ use Rattle.tariff.specs.declared.prices.HourPrices.{HourPrices}
 use Rattle.tally.specs.DayPrices.{DayPrices}
 use Rattle.book.specs.Records.{at}
 
-abbrev pub block_price : (heavy light : ℤ) → Block → ℤ
-block_price heavy light Heavy = heavy
-block_price heavy light Light = light
+-- which of two figures is a block's
+abbrev pub by_block : {A : Type 0} → (heavy light : A) → Block → A
+by_block heavy light Heavy = heavy
+by_block heavy light Light = light
 
+-- the prices of all hours and blocks
 abbrev pub day_prices : (heavy light : ℤ) → List ℤ → List ℕ → DayPrices
 day_prices heavy light real_time factors =
-    record { day_ahead = block_price heavy light; real_time = at (pos 0) real_time; factor = at 0 factors }
+    record { day_ahead = by_block heavy light; real_time = at (pos 0) real_time; factor = at 0 factors }
 
 -- what an hour is settled by
 unfoldable pub priced_at : DayKind → (heavy light : ℤ) → List ℤ → List ℕ → ℕ → HourPrices
 priced_at kind heavy light real_time factors hour =
-    hour_prices initial_terms (block_price heavy light (block_of kind hour)) (at (pos 0) real_time hour)
+    hour_prices initial_terms (by_block heavy light (block_of kind hour)) (at (pos 0) real_time hour)
     (at 0 factors hour)

@@ -17,6 +17,8 @@ abbrev pub Laid : HourRecord → Type 0
 Laid hour = (hour_of hour).allotted ≡ true → (seller buyer : ℕ) → by_seller 0 hour.pairs seller buyer
     ≡ pair (hour_of hour) seller buyer
 
+-- Some list of lawful calls led to these records from their set-up: the state and each balance are what the tally makes
+-- of that list.
 pub record Led (pool : Pool) (day : DayRecord) (year : YearRecord) (balances : List ℤ) : Type 0 where
   pub events : List Event
   pub proper : Proper (set_up_in pool)

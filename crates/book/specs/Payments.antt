@@ -4,9 +4,10 @@ use Rattle.tariff.specs.declared.blocks.Block.TheVariants.{Heavy, Light}
 use Rattle.tally.specs.AccountLaws.{no_payment}
 use Rattle.tally.specs.Statements.{Statement, Payment}
 use Rattle.book.specs.Records.{at}
-use Rattle.book.specs.declared.payment.Payment.{Payment as Entry}
+use Rattle.book.specs.declared.payment.Payment.{Payment as PageEntry}
 
-abbrev pub payment_of : Entry → Payment
+-- all five figures
+abbrev pub payment_of : PageEntry → Payment
 payment_of entry = record {
   holdback = entry.holdback;
   energy = entry.energy;
@@ -16,10 +17,10 @@ payment_of entry = record {
 }
 
 -- a table has a row for each seller, and in it an entry for each buyer; another number has no payment
-abbrev pub payments_in : List (List Entry) → (seller buyer : ℕ) → Payment
+abbrev pub payments_in : List (List PageEntry) → (seller buyer : ℕ) → Payment
 payments_in rows seller buyer = at no_payment (map payment_of (at [] rows seller)) buyer
 
 -- one table for each block
-abbrev pub statement_in : (heavy light : List (List Entry)) → Statement
+abbrev pub statement_in : (heavy light : List (List PageEntry)) → Statement
 statement_in heavy light Heavy = payments_in heavy
 statement_in heavy light Light = payments_in light

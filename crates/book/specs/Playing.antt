@@ -6,20 +6,32 @@ use Rattle.tariff.specs.Tables.{Tables}
 use Rattle.tally.specs.States.{State, SetUp}
 use Rattle.book.specs.Guarantee.{Stands}
 use Rattle.book.specs.Histories.{Made, tally_of}
-use Rattle.book.specs.MadeFrom.{MadeFrom}
+use Rattle.book.specs.MadeFrom.{AnsweredEntry, MadeFrom, call_from}
 use Rattle.book.specs.Runs.{Run}
 use Rattle.book.specs.declared.book.Book.{Book}
 use Rattle.book.specs.declared.call.Call.{Call}
 
 -- what sources and rules of two types mean
 module _ {S R : Type 0} (tables : S → Tables) (most : ℕ) (moves : Moves) (meaning : R → Division) where
+  -- an entry of a list, with what answered it
+  abbrev pub said_by : (before after : Call S R) → AnsweredEntry
+  said_by before after = record {
+    entry = before.entry;
+    tables = tables before.source;
+    most = most;
+    moves = moves;
+    first = meaning before.rule;
+    last = meaning after.rule;
+    answered = told after.told;
+  }
+
   -- A call of a list before and after it was made in a state, and what was made of it. Its entry and its source stay.
   pub record Brought (state : State) (before after : Call S R) (call : Made) : Type 0 where
     pub entry : after.entry ≡ before.entry
     pub source : after.source ≡ before.source
-    pub made : MadeFrom (tables before.source) most moves state before.entry (meaning before.rule)
-        (record { old = before.heavy; new = after.heavy }) (record { old = before.light; new = after.light })
-        (told after.told) (meaning after.rule) call
+    pub from : MadeFrom (said_by before after)
+        (record { old = before.heavy; new = after.heavy }) (record { old = before.light; new = after.light }) state
+    pub made : call ≡ call_from from call.left
 
   -- A list of calls before and after they were made, and what was made of them, one for each, all with the newest
   -- first.

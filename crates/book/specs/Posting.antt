@@ -7,7 +7,7 @@ use Rattle.tally.specs.SizeLaws.{SmallPayment}
 use Rattle.tally.specs.Statements.{Payment, Statement, buyer_pays, seller_pays}
 use Rattle.book.specs.Payments.{payment_of}
 use Rattle.book.specs.Records.{at}
-use Rattle.book.specs.declared.payment.Payment.{Payment as Entry}
+use Rattle.book.specs.declared.payment.Payment.{Payment as PageEntry}
 
 -- what the seller gets by a payment, and the buyer, each less what it pays
 abbrev pub seller_gets : Payment → ℤ
@@ -23,15 +23,15 @@ party_gets parties page party =
     +ℤ total_z (λ seller. buyer_gets (page seller party)) parties
 
 -- a row's payments by number
-abbrev pub entries_in : List Entry → ℕ → Payment
+abbrev pub entries_in : List PageEntry → ℕ → Payment
 entries_in row = at no_payment (map payment_of row)
 
 -- the payments of the parties are small
-abbrev pub SmallEntries : ℕ → (ℕ → Payment) → Type 0
-SmallEntries parties entries = (number : ℕ) → 0 < number → number ≤ parties → SmallPayment (entries number)
+abbrev pub SmallRow : ℕ → (ℕ → Payment) → Type 0
+SmallRow parties entries = (number : ℕ) → 0 < number → number ≤ parties → SmallPayment (entries number)
 
 abbrev pub SmallPage : ℕ → (ℕ → ℕ → Payment) → Type 0
-SmallPage parties page = (seller : ℕ) → 0 < seller → seller ≤ parties → SmallEntries parties (page seller)
+SmallPage parties page = (seller : ℕ) → 0 < seller → seller ≤ parties → SmallRow parties (page seller)
 
 abbrev pub SmallStatement : ℕ → Statement → Type 0
 SmallStatement parties statement = (block : Block) → SmallPage parties (statement block)

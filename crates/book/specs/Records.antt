@@ -7,7 +7,7 @@ use Rattle.book.specs.declared.records.DayRecord.{DayRecord}
 use Rattle.book.specs.declared.records.HourRecord.{HourRecord}
 use Rattle.book.specs.declared.records.Pool.{Pool}
 use Rattle.book.specs.declared.records.Stage.{Stage}
-use Rattle.book.specs.declared.records.Stage.TheVariants.{Entered, Allotted}
+use Rattle.book.specs.declared.records.Stage.TheVariants.{Unallotted, Allotted}
 use Rattle.book.specs.declared.records.YearRecord.{YearRecord}
 
 -- what stands for a number in a list: number 1 has the first place, and a number without a place has `none`
@@ -15,14 +15,20 @@ abbrev pub at : {A : Type 0} → A → List A → ℕ → A
 at none list zero = none
 at none list (suc place) = slice_index_or list place none
 
+-- and in a row of a table
+abbrev pub in_row : {A : Type 0} → A → List (List A) → (row column : ℕ) → A
+in_row none rows row column = at none (at [] rows row) column
+
 -- in a table with a row for each buyer
 abbrev pub by_seller : {A : Type 0} → A → List (List A) → (seller buyer : ℕ) → A
-by_seller none rows seller buyer = at none (at [] rows buyer) seller
+by_seller none rows seller buyer = in_row none rows buyer seller
 
+-- an hour of another stage still takes entries
 abbrev pub is_allotted : Stage → Bool
-is_allotted Entered = false
+is_allotted Unallotted = false
 is_allotted Allotted = true
 
+-- an hour: figures by number of party, and pairs by seller and buyer
 abbrev pub hour_of : HourRecord → Hour
 hour_of record_ = record {
   results = at (pos 0) record_.results;
@@ -39,6 +45,7 @@ hour_of record_ = record {
 abbrev pub hours_of : List HourRecord → ℕ → Hour
 hours_of records = at blank (map hour_of records)
 
+-- the set-up, the year, and all of it together
 abbrev pub set_up_in : Pool → SetUp
 set_up_in pool = record { parties = pool.parties; full = pool.full_rate; step = pool.step_rate }
 
@@ -46,7 +53,7 @@ abbrev pub year_in : YearRecord → Year
 year_in year = record {
   month = year.month;
   failure_days = at 0 year.failure_days;
-  misses = λ seller. at 0 (at [] year.misses seller);
+  misses = in_row 0 year.misses;
   charges = at 0 year.charges;
 }
 

@@ -15,6 +15,7 @@ abbrev pub MovedFor : ℕ → Moves → Answer → Division → ℕ → List ℕ
 MovedFor zero moves answered before total claims after = after ≡ before
 MovedFor (suc mw) moves answered before total claims after = Moved moves answered before total claims after
 
+-- what an allot hands to the rule
 abbrev pub AllotMoved : Moves → Answer → ℕ → Hour → (before after : Division) → Type 0
 AllotMoved moves answered parties hour before after =
     MovedFor (requested parties hour) moves answered before (allot_total parties hour) (allot_claims parties hour) after

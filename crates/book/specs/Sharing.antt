@@ -7,7 +7,7 @@ use Rattle.tally.specs.DayPrices.{DayPrices}
 use Rattle.tally.specs.MakeWhole.{make_whole_share}
 use Rattle.tally.specs.States.{State, IsParty}
 use Rattle.tally.specs.Turns.{Turned, Turns}
-use Rattle.book.specs.Records.{at}
+use Rattle.book.specs.Records.{in_row}
 
 -- the share at a place; the rule is consulted only where there is something to divide
 abbrev pub share_of : (amount : ℕ) → Division → List ℕ → ℕ → ℕ
@@ -29,8 +29,8 @@ pub record Divisions (most : ℕ) (moves : Moves) (amounts : ℕ → ℕ) (claim
 
 -- a table for each block, with a row for each seller
 abbrev pub shares_in : (heavy light : List (List ℕ)) → Block → (seller buyer : ℕ) → ℕ
-shares_in heavy light Heavy seller buyer = at 0 (at [] heavy seller) buyer
-shares_in heavy light Light seller buyer = at 0 (at [] light seller) buyer
+shares_in heavy light Heavy = in_row 0 heavy
+shares_in heavy light Light = in_row 0 light
 
 -- Make-whole of both blocks, divided by a rule in the turns of a close.
 pub record Shared (most : ℕ) (moves : Moves) (state : State) (prices : DayPrices) (first : Division)

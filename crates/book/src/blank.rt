@@ -17,7 +17,7 @@ impl HourRecord {
         ensures laid { Laid result }
     {
         HourRecord {
-            stage: Stage::Entered,
+            stage: Stage::Unallotted,
             results: [0; PARTIES],
             offers: [0; PARTIES],
             requests: [0; PARTIES],

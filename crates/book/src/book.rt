@@ -4,18 +4,18 @@ ghost use Rattle.book.specs.Led.{Led};
 use crate::records::{ACCOUNTS, DayRecord, Pool, YearRecord};
 
 mod allotting;
+mod checks;
 mod closing;
 mod days;
 mod deploying;
 mod entering;
 mod entries;
 mod figures;
-mod holdings;
+mod held_hours;
 mod pricing;
 mod reading;
 mod set_up;
 mod settling;
-mod tests;
 
 // Account 0 is the pool's, and a party's has its number.
 #[derive(Drop)]

@@ -1,12 +1,13 @@
 // One call of a list.
 ghost use Rattle.std.specs.Prelude.{◌≡◌};
-ghost use Rattle.tariff.specs.Answers.{told};
-ghost use Rattle.book.specs.Enters.{Enters};
+ghost use Rattle.book.specs.EntryStands.{EntryStands};
+ghost use Rattle.book.specs.Playing.{said_by};
 
 use crate::book::Book;
 use crate::entry::Entry;
 use crate::payment::Payment;
 use crate::statement::Statement;
+use pages::page::PAGE_ENTRIES;
 use tariff::division::DivisionRule;
 use tariff::refusal::Refusal;
 use tariff::source::PriceSource;
@@ -16,19 +17,17 @@ pub struct Call<S, R> {
     pub entry: Entry,
     pub source: S,
     pub rule: R,
-    pub heavy: [Payment; 144],
-    pub light: [Payment; 144],
+    pub heavy: [Payment; PAGE_ENTRIES],
+    pub light: [Payment; PAGE_ENTRIES],
     pub told: Result<(), Refusal>,
 }
 
 impl<S: PriceSource, R: DivisionRule> Call<S, R> {
     // Makes the call, and keeps what it was told.
     pub fn make(&mut self, book: &mut Book)
-        ensures enters { Enters (S.tables self.old.source) R.LIMIT R.moves self.old.entry book.old
-            (R.meaning self.old.rule)
+        ensures enters { EntryStands (said_by S.tables R.LIMIT R.moves R.meaning self.old self.new) book.old
             (record { old = self.old.heavy; new = self.new.heavy })
-            (record { old = self.old.light; new = self.new.light })
-            (told self.new.told) book.new (R.meaning self.new.rule) }
+            (record { old = self.old.light; new = self.new.light }) book.new }
         ensures entry { self.new.entry ≡ self.old.entry }
         ensures source { self.new.source ≡ self.old.source }
     {

@@ -1,6 +1,6 @@
 // What a seller is charged in a day.
 ghost use Rattle.std.specs.Prelude.{◌≡◌, ℕ, true};
-ghost use Rattle.book.specs.CutTables.{entry_in};
+ghost use Rattle.book.specs.Records.{in_row};
 
 use crate::records::{ByHour, ByParty};
 
@@ -10,5 +10,5 @@ use crate::records::{ByHour, ByParty};
 pub(crate) struct CutTable {
     pub(crate) rows: ByHour<ByParty<u64>>,
     pub(crate) is_empty: bool,
-    pub(crate) ghost empty: { is_empty ≡ true → (hour buyer : ℕ) → entry_in rows hour buyer ≡ 0 },
+    pub(crate) ghost empty: { is_empty ≡ true → (hour buyer : ℕ) → in_row 0 rows hour buyer ≡ 0 },
 }

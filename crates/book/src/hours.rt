@@ -2,7 +2,7 @@
 ghost use Rattle.std.specs.Prelude.{◌≡◌, ◌≢◌, suc};
 ghost use Rattle.tariff.specs.Answers.{told, granted, after};
 ghost use Rattle.tally.specs.Allotment.{shortfall};
-ghost use Rattle.book.specs.HourEntries.{entry_answer, entered_by};
+ghost use Rattle.book.specs.HourEntries.{hour_answer, entered_by};
 ghost use Rattle.book.specs.Led.{Laid};
 ghost use Rattle.book.specs.Records.{hour_of};
 
@@ -15,7 +15,7 @@ use tariff::refusal::Refusal;
 // An entry for one hour.
 #[derive(Clone, Copy)]
 pub(crate) enum HourEntry {
-    Surplus {
+    Result {
         party: PartyPlace,
         mw: i64,
     },
@@ -46,18 +46,18 @@ impl HourRecord {
 
     // Takes an entry, or refuses it by what the hour has.
     pub(crate) fn enter(&mut self, number: u64, entry: HourEntry) -> Result<(), Refusal>
-        ensures answer { told result ≡ entry_answer number entry (hour_of self.old) }
+        ensures answer { told result ≡ hour_answer number entry (hour_of self.old) }
         ensures hour { hour_of self.new ≡ after (told result) (entered_by entry) (hour_of self.old) }
         ensures laid { Laid self.old → Laid self.new }
         ensures same { told result ≢ granted → self.new ≡ self.old }
     {
         match (self.stage, entry) {
-            (Stage::Entered, HourEntry::Surplus { party, mw }) => {
+            (Stage::Unallotted, HourEntry::Result { party, mw }) => {
                 self.results[party.place] = mw;
                 self.requests[party.place] = 0;
             }
-            (Stage::Entered, HourEntry::Offer { party, mw }) => self.offers[party.place] = mw,
-            (Stage::Entered, HourEntry::Request { party, mw }) => {
+            (Stage::Unallotted, HourEntry::Offer { party, mw }) => self.offers[party.place] = mw,
+            (Stage::Unallotted, HourEntry::Request { party, mw }) => {
                 if mw > self.shortfall(party) {
                     return Err(Refusal::AboveShortfall {
                         hour: number,
@@ -84,7 +84,7 @@ impl HourRecord {
                 put(&mut self.missed, seller, buyer, mwh);
                 put(&mut self.cover, seller, buyer, cover);
             }
-            (Stage::Entered, HourEntry::Miss { .. }) => return Err(Refusal::HourNotAllotted {
+            (Stage::Unallotted, HourEntry::Miss { .. }) => return Err(Refusal::HourNotAllotted {
                 hour: number,
             }),
             (Stage::Allotted, _) => return Err(Refusal::HourAllotted { hour: number }),

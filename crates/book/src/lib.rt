@@ -1,10 +1,10 @@
 // The book of a pool: it takes the calls of its companies, allots, and settles each day at its close.
 #![tactic(auto)]
 
+mod allotments;
 mod amounts;
 mod blank;
 mod block_hours;
-mod block_prices;
 pub mod book;
 pub mod call;
 mod cut_table;
@@ -12,7 +12,6 @@ mod day;
 mod deployments;
 mod division;
 pub mod entry;
-mod holding;
 mod hours;
 pub mod laws;
 mod laying;

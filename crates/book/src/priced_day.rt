@@ -6,7 +6,7 @@ use crate::records::ByHour;
 use tariff::blocks::DayKind;
 use tariff::prices::HourPrices;
 
-mod pricing;
+pub(crate) mod pricing;
 
 // What is not needed stands at 0. An hour's prices are those of its block's day-ahead price, its real-time price and
 // its factor.

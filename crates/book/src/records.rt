@@ -25,7 +25,7 @@ pub(crate) type ByMonth<T> = [T; MONTHS];
 // Whether an hour still takes entries, or was allotted.
 #[derive(Clone, Copy)]
 pub(crate) enum Stage {
-    Entered,
+    Unallotted,
     Allotted,
 }
 

@@ -1,12 +1,7 @@
 // Two rules of different types on one book.
-ghost use Rattle.std.specs.Prelude.{◌≡◌, List};
-ghost use Rattle.tally.specs.States.{SetUp};
+ghost use Rattle.std.specs.Prelude.{◌≡◌};
 ghost use Rattle.tariff.specs.Answers.{told};
-ghost use Rattle.book.specs.Histories.{Made};
-ghost use Rattle.book.specs.MadeFrom.{MadeFrom};
-ghost use Rattle.book.specs.Runs.{Run};
-ghost use Rattle.book.specs.TwoCalls.{TwoCalls};
-ghost use Rattle.book.specs.declared.book.Book.{Book};
+ghost use Rattle.book.specs.TwoCalls.{OneAfterAnother};
 
 use crate::book::Book;
 use crate::entry::Entry;
@@ -15,7 +10,7 @@ use tariff::division::DivisionRule;
 use tariff::refusal::Refusal;
 use tariff::source::PriceSource;
 
-// Makes two calls, each by a rule of its own. Whatever calls led to the book, they go on with these two.
+// Makes two calls, each by a rule of its own.
 pub fn by_two_rules<S: PriceSource, A: DivisionRule, B: DivisionRule>(
     book: &mut Book,
     first: Entry,
@@ -25,14 +20,26 @@ pub fn by_two_rules<S: PriceSource, A: DivisionRule, B: DivisionRule>(
     other: &mut B,
     statement: &mut Statement<'_>,
 ) -> (Result<(), Refusal>, Result<(), Refusal>)
-    ensures calls { (set_up : SetUp) (start : Book) (history : List Made) → Run set_up start history book.old
-        → TwoCalls set_up start history
-        (λ state heavy light. MadeFrom (S.tables source.now) A.LIMIT A.moves state first
-        (A.meaning rule.old) heavy light
-        (told result.0) (A.meaning rule.new))
-        (λ state heavy light. MadeFrom (S.tables source.now) B.LIMIT B.moves state second
-        (B.meaning other.old) heavy light
-        (told result.1) (B.meaning other.new))
+    ensures calls { OneAfterAnother
+        (record {
+          entry = first;
+          tables = S.tables source.now;
+          most = A.LIMIT;
+          moves = A.moves;
+          first = A.meaning rule.old;
+          last = A.meaning rule.new;
+          answered = told result.0;
+        })
+        (record {
+          entry = second;
+          tables = S.tables source.now;
+          most = B.LIMIT;
+          moves = B.moves;
+          first = B.meaning other.old;
+          last = B.meaning other.new;
+          answered = told result.1;
+        })
+        book.old
         (record { old = statement.old.heavy.now; new = statement.new.heavy.now })
         (record { old = statement.old.light.now; new = statement.new.light.now }) book.new }
     ensures heavy { statement.new.heavy.ghost_name ≡ statement.old.heavy.ghost_name }

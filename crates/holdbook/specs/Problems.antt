@@ -16,3 +16,4 @@ abbrev pub problem_text : Problem → Option (List ℕ)
 problem_text (problem.Option option) = Some (codes "unknown option '" ++ (option.now ++ codes "'\ntry 'holdbook --help'"))
 problem_text (problem.Input name error) = None
 problem_text (problem.Output error) = None
+problem_text (problem.Arguments error) = None

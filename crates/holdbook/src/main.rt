@@ -5,6 +5,10 @@ mod arguments;
 mod problem;
 mod running;
 
+ghost use Rattle.std.specs.Prelude.{◌≡◌, drop, if◌then◌else◌, is_ok};
+ghost use Rattle.std.specs.Process.{exit_status};
+ghost use Rattle.holdbook.specs.Runs.{Ran};
+
 use crate::arguments::{Asked, asked_by};
 use crate::problem::Problem;
 use crate::running::answer;
@@ -30,7 +34,9 @@ numbers.
 const WRITTEN: usize = 65_536;
 
 // Does what the arguments ask for.
-fn run<'a>(rt: &HostRuntime, arguments: &'a [String]) -> Result<(), Problem<'a>> {
+fn run<'a>(rt: &HostRuntime, arguments: &'a [String]) -> Result<(), Problem<'a>>
+    ensures { Ran arguments.now result }
+{
     match asked_by(arguments) {
         Asked::Help => match println!(rt; "{HELP}") {
             Ok(()) => Ok(()),
@@ -47,23 +53,37 @@ fn run<'a>(rt: &HostRuntime, arguments: &'a [String]) -> Result<(), Problem<'a>>
 }
 
 // What follows the program's own name.
-fn own_arguments(rt: &HostRuntime) -> io::Result<Vec<String>> {
-    let mut arguments = Vec::new(rt.alloc());
-    for argument in env::args(rt)?.skip(1) {
-        arguments.push(argument)?;
+fn own(arguments: &[String]) -> &[String]
+    ensures { result.now ≡ drop 1 arguments.now }
+{
+    match arguments {
+        [] => &[],
+        [_, own @ ..] => own,
     }
-    Ok(arguments)
+}
+
+// All arguments, of which the system alone knows.
+fn given(rt: &HostRuntime) -> io::Result<Vec<String>> {
+    Ok(env::args(rt)?.collect(rt.alloc())?)
+}
+
+// Tells a problem on standard error. The exit status is 0 where there was none, else 1.
+fn told(rt: &HostRuntime, done: Result<(), Problem>) -> ExitCode
+    ensures { exit_status result ≡ (if is_ok done.entry then 0 else 1) }
+{
+    match done {
+        Ok(()) => ExitCode::SUCCESS,
+        Err(problem) => {
+            // Where not even standard error takes it, the status tells.
+            let _ = eprintln!(rt; "holdbook: {problem}");
+            ExitCode::FAILURE
+        }
+    }
 }
 
 fn main(rt: HostRuntime) -> ExitCode {
-    let told = match own_arguments(&rt) {
-        Ok(arguments) => match run(&rt, &arguments) {
-            Ok(()) => return ExitCode::SUCCESS,
-            Err(problem) => eprintln!(rt; "holdbook: {problem}"),
-        },
-        Err(e) => eprintln!(rt; "holdbook: arguments: {e}"),
-    };
-    // Where not even standard error takes it, the status tells.
-    let _ = told;
-    ExitCode::FAILURE
+    match given(&rt) {
+        Ok(arguments) => told(&rt, run(&rt, own(&arguments))),
+        Err(e) => told(&rt, Err(Problem::Arguments(e))),
+    }
 }

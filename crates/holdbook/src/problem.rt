@@ -10,6 +10,7 @@ pub enum Problem<'a> {
     Option(&'a str),
     Input { name: &'a str, error: io::Error },
     Output(io::Error),
+    Arguments(io::Error),
 }
 
 impl<'a> Problem<'a> {
@@ -35,6 +36,7 @@ impl fmt::Display for Problem<'_> {
             ),
             Problem::Input { name, error } => write!(f, "{name}: {error}"),
             Problem::Output(error) => write!(f, "standard output: {error}"),
+            Problem::Arguments(error) => write!(f, "arguments: {error}"),
         }
     }
 }

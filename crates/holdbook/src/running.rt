@@ -1,6 +1,5 @@
 // One session through all input.
-ghost use Rattle.std.specs.Prelude.{length, max};
-ghost use Rattle.holdbook.specs.Runs.{RunAnswered, TextsAnswered};
+ghost use Rattle.holdbook.specs.Runs.{OneAnswered, RunAnswered};
 
 use crate::problem::Problem;
 use session::serving::serve;
@@ -16,7 +15,7 @@ fn answer_input<'a, I: Read, W: Write>(
     input: &mut I,
     writer: &mut W,
 ) -> Result<(), Problem<'a>>
-    ensures { TextsAnswered 1 session.old session.new result (W.contents writer.old) (W.contents writer.new) }
+    ensures { OneAnswered name.now session.old session.new result (W.contents writer.old) (W.contents writer.new) }
 {
     match serve(session, input, writer) {
         Ok(()) => Ok(()),
@@ -30,7 +29,7 @@ pub fn answer<'a, R: Files + Input, W: Write>(
     names: &'a [String],
     writer: &mut W,
 ) -> Result<(), Problem<'a>>
-    ensures { RunAnswered (max 1 (length names.now)) result (W.contents writer.old) (W.contents writer.new) }
+    ensures { RunAnswered names.now result (W.contents writer.old) (W.contents writer.new) }
 {
     let mut session = Session::new();
     if names.is_empty() {

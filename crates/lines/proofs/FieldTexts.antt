@@ -4,7 +4,8 @@ use Rattle.std.proofs.lemmas.Bool.{ne_eqb, cond_both, eqb-true}
 use Rattle.std.proofs.lemmas.List.{length-append, append-nil}
 use Rattle.text.specs.Fields.{fields_in}
 use Rattle.text.specs.Pieces.{onto}
-use Rattle.text.proofs.Joins.{Unbroken, unbroken_cut}
+use Rattle.text.specs.PieceLaws.{Unbroken}
+use Rattle.text.proofs.Joins.{unbroken_cut}
 use Rattle.lines.specs.Fits.{FitAll}
 use Rattle.lines.specs.Texts.{text_of, fields_text}
 use Rattle.lines.specs.declared.shape.Kind.{Kind}

@@ -13,7 +13,7 @@ use Rattle.lines.specs.declared.shape.Shape.{Shape}
 use Rattle.lines.proofs.FieldTexts.{fields_few, cut_fields, join_fields}
 use Rattle.lines.proofs.Fitting.{fit_length, same_texts}
 use Rattle.lines.proofs.Tables.{same_shape, letter_above_tab, kinds_few, same_entry}
-use Rattle.text.proofs.Joins.{Unbroken}
+use Rattle.text.specs.PieceLaws.{Unbroken}
 
 abbrev pub texts_of : LineEntry → List (List ℕ)
 texts_of e = map text_of (values_of e)

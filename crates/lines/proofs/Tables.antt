@@ -7,7 +7,8 @@ use Rattle.lines.specs.Values.{values_of, price_value}
 use Rattle.lines.specs.declared.entry.LineEntry.{LineEntry}
 use Rattle.lines.specs.declared.entry.LineEntry.TheVariants as entry
 use Rattle.lines.specs.declared.shape.Shape.{Shape}
-use Rattle.lines.specs.declared.shape.Shape.TheVariants.{SetUp, Open, Result, Offer, Request, Allot, Deploy, Miss, Close, Void, Year, DayPrices, HourPrices}
+use Rattle.lines.specs.declared.shape.Shape.TheVariants.{SetUp, Open, Result, Offer, Request, Allot, Deploy, Miss}
+use Rattle.lines.specs.declared.shape.Shape.TheVariants.{Close, Void, Year, DayPrices, HourPrices}
 use Rattle.lines.specs.declared.value.Value.{Value}
 use Rattle.lines.specs.declared.value.Value.TheVariants.{Missing}
 

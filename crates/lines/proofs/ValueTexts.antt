@@ -3,7 +3,7 @@ use Rattle.std.proofs.Common.{◌≡◌, ◌≢◌, ℕ, suc, ◌^◌, ◌<◌, 
 use Rattle.std.proofs.lemmas.Fmt.{signed_decimal_injective}
 use Rattle.tariff.specs.declared.blocks.DayKind.TheVariants.{Workday, Sunday}
 use Rattle.tariff.specs.declared.charges.Cover.TheVariants.{Covered, Uncovered}
-use Rattle.text.proofs.Joins.{Unbroken}
+use Rattle.text.specs.PieceLaws.{Unbroken}
 use Rattle.text.proofs.Sizes.{digit, short}
 use Rattle.text.specs.Figures.{Short, figure_text}
 use Rattle.lines.specs.Fits.{Fits}

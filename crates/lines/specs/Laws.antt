@@ -1,7 +1,9 @@
 -- What reading and writing give each other. Assumes nothing.
-use Rattle.std.specs.Prelude.{◌≡◌, ℕ, List, take, drop, Ok, Result}
+use Rattle.std.specs.Prelude.{◌≡◌, ◌≤◌, ℕ, List, length, take, drop, Ok, Result}
 use Rattle.tariff.specs.declared.refusal.Refusal.{Refusal}
+use Rattle.lines.specs.Fits.{Writable}
 use Rattle.lines.specs.Reading.{Reads}
+use Rattle.lines.specs.Texts.{line_of}
 use Rattle.lines.specs.Writing.{Writes}
 use Rattle.lines.specs.declared.entry.LineEntry.{LineEntry}
 
@@ -18,6 +20,10 @@ OneLine = (entry : LineEntry) (line other : List ℕ) → Reads line (Ok entry) 
 abbrev pub BehindStays : Type 0
 BehindStays = (entry : LineEntry) (before after : List ℕ) (count : ℕ)
     → Writes entry before after (Ok count) → drop count after ≡ drop count before
+
+-- the line of an entry that can be written has at most 80 bytes
+abbrev pub ShortLines : Type 0
+ShortLines = (entry : LineEntry) → Writable entry → length (line_of entry) ≤ 80
 
 -- each line has one answer
 abbrev pub OneAnswer : Type 0

@@ -6,7 +6,8 @@ use Rattle.lines.specs.declared.entry.LineEntry.TheVariants as entry
 use Rattle.lines.specs.declared.shape.Kind.{Kind}
 use Rattle.lines.specs.declared.shape.Kind.TheVariants.{Figure, Price, Day, Cover}
 use Rattle.lines.specs.declared.shape.Shape.{Shape}
-use Rattle.lines.specs.declared.shape.Shape.TheVariants.{SetUp, Open, Result, Offer, Request, Allot, Deploy, Miss, Close, Void, Year, DayPrices, HourPrices}
+use Rattle.lines.specs.declared.shape.Shape.TheVariants.{SetUp, Open, Result, Offer, Request, Allot, Deploy, Miss}
+use Rattle.lines.specs.declared.shape.Shape.TheVariants.{Close, Void, Year, DayPrices, HourPrices}
 
 -- S, D, R, V, C, A, E, F, Z, X, Y, P, H
 abbrev pub letter_of : Shape → ℕ

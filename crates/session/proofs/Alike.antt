@@ -1,5 +1,6 @@
 -- Lines of which the first 81 bytes are the same are answered the same. Assumes nothing.
-use Rattle.std.proofs.Common.{◌≡◌, ℕ, zero, suc, ◌<◌, ◌≤◌, List, [], ◌∷◌, ◌++◌, length, take, Result, Err, refl, sym, ◌∙◌, ap, subst, inl, inr, arith}
+use Rattle.std.proofs.Common.{◌≡◌, ℕ, zero, suc, ◌<◌, ◌≤◌, List, [], ◌∷◌, ◌++◌, length, take, Result, Err, refl, sym}
+use Rattle.std.proofs.Common.{◌∙◌, ap, subst, inl, inr, arith}
 use Rattle.std.proofs.lemmas.Bool.{cases_lt}
 use Rattle.std.proofs.lemmas.List.{take_all, length-take}
 use Rattle.tariff.specs.declared.refusal.Refusal.{Refusal}
@@ -58,7 +59,8 @@ pub record Split (lines : List (List ℕ)) (line : List ℕ) (rest all : List (L
   pub one_alike : Alike line other
   pub rest_alike : AllAlike rest behind
 
-pub split : (lines : List (List ℕ)) (line : List ℕ) (rest all : List (List ℕ)) → AllAlike (lines ++ (line ∷ rest)) all → Split lines line rest all
+pub split : (lines : List (List ℕ)) (line : List ℕ) (rest all : List (List ℕ)) → AllAlike (lines ++ (line ∷ rest)) all
+    → Split lines line rest all
 split [] line rest [] alike = absurd alike
 split [] line rest (other ∷ others) alike =
     record { others = []; other = other; behind = others; is = refl; alike = tt; one_alike = alike.0; rest_alike = alike.1 }
@@ -89,7 +91,8 @@ course_alike start _ others _ _ _ alike (goes_on lines replies history before co
     let before_alike = course_alike start lines s.others replies history before s.alike course in
     subst (λ ls. Course start ls (replies ++ reply_text left result)
     (calls_of_reading taken.reading result before left taken.applied ++ history) left) last
-    (goes_on s.others replies history before before_alike s.other result left (takes_alike line s.other result before left s.one_alike taken))
+    (goes_on s.others replies history before before_alike s.other result left
+    (takes_alike line s.other result before left s.one_alike taken))
 
 all_alike : (lines : List (List ℕ)) → AllAlike lines lines
 all_alike [] = tt

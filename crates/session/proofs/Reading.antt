@@ -1,5 +1,6 @@
 -- What a session makes of the bytes that a reader gives. Assumes nothing.
-use Rattle.std.proofs.Common.{min, ◌≡◌, ℕ, zero, suc, ◌+◌, ◌-◌, ◌≤◌, List, [], ◌∷◌, ◌++◌, length, take, drop, Option, Ok, refl, sym, ◌∙◌, ap, subst, inl, inr, arith}
+use Rattle.std.proofs.Common.{min, ◌≡◌, ℕ, zero, suc, ◌+◌, ◌-◌, ◌≤◌, List, [], ◌∷◌, ◌++◌, length, take, drop, Option}
+use Rattle.std.proofs.Common.{refl, sym, ◌∙◌, ap, subst, inl, inr, arith}
 use Rattle.std.proofs.KnownBytes.{Appends-nil}
 use Rattle.std.proofs.Math.Seq.{paste, take-append-add}
 use Rattle.std.proofs.lemmas.Bool.{cases_lt}
@@ -11,10 +12,11 @@ use Rattle.session.specs.Texts.{LinesAnswered}
 use Rattle.session.specs.declared.session.Session.{Session}
 
 -- no bytes are no line
-pub empty_answered : {E : Type 0} (session : Session) (written : Option (List ℕ)) (bytes : List ℕ) → length bytes ≡ 0
-    → LinesAnswered {V = Unit {0}} {E = E} session session (Ok tt) written written (but_empty_end (bytes ∷ []))
-empty_answered session written [] none = record { replies = []; history = []; course = begins; writes = Appends-nil written }
-empty_answered session written (byte ∷ bytes) none = absurd (omega arith)
+pub empty_answered : (session : Session) (well : Type 0) (written : Option (List ℕ)) (bytes : List ℕ) → length bytes ≡ 0
+    → LinesAnswered session session well written written (but_empty_end (bytes ∷ []))
+empty_answered session well written [] none =
+    record { replies = []; history = []; course = begins; writes = λ went. Appends-nil written }
+empty_answered session well written (byte ∷ bytes) none = absurd (omega arith)
 
 take_less : (n m : ℕ) (bytes : List ℕ) → n ≤ m → take n (take m bytes) ≡ take n bytes
 take_less zero m bytes few = refl

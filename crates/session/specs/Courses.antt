@@ -1,11 +1,9 @@
 -- Lines that a session answered, one after another. Assumes nothing.
-use Rattle.std.specs.Prelude.{ℕ, List, [], ◌∷◌, ◌++◌, length, Result, Ok, Err, Option, Some}
+use Rattle.std.specs.Prelude.{ℕ, List, [], ◌∷◌, ◌++◌, Result, Ok, Err, Option, Some}
 use Rattle.tariff.specs.Answers.{Answer, told}
 use Rattle.tariff.specs.declared.refusal.Refusal.{Refusal}
-use Rattle.sheets.specs.DaySheets.{tables_of}
-use Rattle.book.specs.Entries.{event_of}
-use Rattle.book.specs.Enters.{made}
 use Rattle.book.specs.Histories.{Made}
+use Rattle.book.specs.MadeFrom.{call_from}
 use Rattle.book.specs.declared.book.Book.{Book}
 use Rattle.book.specs.declared.entry.Entry.{Entry}
 use Rattle.lines.specs.declared.entry.LineEntry.{LineEntry}
@@ -18,9 +16,7 @@ use Rattle.session.specs.declared.session.Session.{Session}
 -- the calls of a book that an entry was: one where it is a call and a book is set up
 abbrev pub calls_of_book : (entry : Entry) (before : Session) (answered : Answer) (left : Session) (old new : Option Book)
     → BookCalled entry before answered left old new → List Made
-calls_of_book entry before answered left (Some old) (Some new) enters =
-    made (event_of entry (tables_of before.sheet) 10 enters.did.meanings (length before.heavy) (length before.light)) answered
-    (record { old = before.heavy; new = left.heavy }) (record { old = before.light; new = left.light }) new ∷ []
+calls_of_book entry before answered left (Some old) (Some new) call = call_from call.did.from new ∷ []
 calls_of_book entry before answered left _ _ calls = []
 
 abbrev pub calls_of_entry : (entry : LineEntry) (before : Session) (answered : Answer) (left : Session)

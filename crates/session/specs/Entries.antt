@@ -8,7 +8,8 @@ use Rattle.sheets.specs.DaySheets.{sheet_of, tables_of}
 use Rattle.sheets.specs.Sheets.{Sheet, day_answer, price_answer, hours_entry_answer, day_entered, hours_entered}
 use Rattle.tally.specs.States.{SetUp, set_up_answer, set_up_of}
 use Rattle.book.specs.Begun.{Begun}
-use Rattle.book.specs.Enters.{Enters, Page}
+use Rattle.book.specs.EntryStands.{EntryStands}
+use Rattle.book.specs.MadeFrom.{PageChange}
 use Rattle.book.specs.declared.book.Book.{Book}
 use Rattle.book.specs.declared.entry.Entry.{Entry}
 use Rattle.lines.specs.declared.entry.LineEntry.{LineEntry}
@@ -44,10 +45,10 @@ pub record SetUpTaken (parties full_rate step_rate : ℤ) (before : Session) (an
   pub sheet : left.sheet ≡ before.sheet
   pub pages : SamePages before left
 
-abbrev pub heavy_page : (before left : Session) → Page
+abbrev pub heavy_page : (before left : Session) → PageChange
 heavy_page before left = record { old = before.heavy; new = left.heavy }
 
-abbrev pub light_page : (before left : Session) → Page
+abbrev pub light_page : (before left : Session) → PageChange
 light_page before left = record { old = before.light; new = left.light }
 
 -- a call of a book: prices are those of the session's sheet, and divisions go by largest remainder
@@ -56,8 +57,15 @@ BookCalled entry before answered left None None = (answered ≡ refused NotSetUp
 BookCalled entry before answered left None (Some new) = ⊥
 BookCalled entry before answered left (Some old) None = ⊥
 BookCalled entry before answered left (Some old) (Some new) =
-    Enters (tables_of before.sheet) 10 Unmoved entry old largest (heavy_page before left) (light_page before left)
-    answered new largest
+    EntryStands (record {
+      entry = entry;
+      tables = tables_of before.sheet;
+      most = 10;
+      moves = Unmoved;
+      first = largest;
+      last = largest;
+      answered = answered;
+    }) old (heavy_page before left) (light_page before left) new
 
 -- A call of the session's book. The sheet stays.
 pub record CallTaken (entry : Entry) (before : Session) (answered : Answer) (left : Session) : Type 0 where

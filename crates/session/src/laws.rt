@@ -9,5 +9,5 @@ ghost use Rattle.session.specs.declared.session.Session.{Session};
 // set up by one of them, the calls of the rest led to it, and the guarantee stands.
 pub fn every_course_stands()
     ensures { (start : Session) (lines : List (List ℕ)) (replies : List ℕ) (history : List Made) (session : Session)
-        → start.book ≡ None → Course start lines replies history session → BookStands history session.book }
+        → start.book ≡ None → Course start lines replies history session → BookStands lines history session.book }
 {}

@@ -1,7 +1,8 @@
 // A session over whatever a reader gives: each line is answered once, in order.
-ghost use Rattle.std.specs.Prelude.{◌≡◌, ◌≤◌, [], ◌∷◌, length, take, drop};
+ghost use Rattle.std.specs.Prelude.{◌≡◌, ◌≢◌, ◌≤◌, [], ◌∷◌, length, take, drop, IsOk, IfErr};
 ghost use Rattle.std.specs.Io.{ReadsAtMost};
-ghost use Rattle.std.specs.Io.KnownBytes.{Keeps, ReadConsumes};
+ghost use Rattle.std.specs.Io.KnownBytes.{ReadConsumes};
+ghost use Rattle.std.specs.IoError.{error_kind};
 ghost use Rattle.text.specs.Lines.{but_empty_end};
 ghost use Rattle.session.specs.Texts.{LinesAnswered, EndedAnswered, TextAnswered};
 
@@ -23,33 +24,17 @@ const HELD: usize = 65_536;
 // How much is kept of a line that has not ended: with so many bytes it is too long already.
 const KEPT: usize = 81;
 
-// LineTaken a line and writes what it is told.
-fn answer<W: Write>(session: &mut Session, line: &[u8], writer: &mut W) -> Result<(), Failure>
-    ensures { LinesAnswered session.old session.new result (W.contents writer.old) (W.contents writer.new) (line.now ∷ []) }
+// Takes a line and writes what it is told.
+fn answer<W: Write>(session: &mut Session, line: &[u8], writer: &mut W) -> io::Result<()>
+    ensures { LinesAnswered session.old session.new (IsOk result) (W.contents writer.old) (W.contents writer.new)
+        (line.now ∷ []) }
 {
     let taken = session.take(line);
-    match session.reply(taken, writer) {
-        Ok(()) => Ok(()),
-        Err(e) => Err(Failure::Writing(e)),
-    }
-}
-
-// Hands on what was written.
-fn flush<W: Write>(writer: &mut W) -> Result<(), Failure>
-    ensures { Keeps (W.contents writer.old) (W.contents writer.new) }
-{
-    match writer.flush() {
-        Ok(()) => Ok(()),
-        Err(e) => Err(Failure::Writing(e)),
-    }
+    session.reply(taken, writer)
 }
 
 // Answers each line that a line feed ends, and tells where what follows them begins.
-fn answer_ended<W: Write>(
-    session: &mut Session,
-    bytes: &[u8],
-    writer: &mut W,
-) -> Result<usize, Failure>
+fn answer_ended<W: Write>(session: &mut Session, bytes: &[u8], writer: &mut W) -> io::Result<usize>
     ensures { EndedAnswered bytes.now session.old session.new result (W.contents writer.old) (W.contents writer.new) }
 {
     let mut from = 0;
@@ -59,20 +44,20 @@ fn answer_ended<W: Write>(
         from = end + 1;
         end = end_of(bytes, from, b'\n');
     }
-    flush(writer)?;
+    writer.flush()?;
     Ok(from)
 }
 
 // Answers what a line feed does not end: it is a line if there are bytes.
-fn answer_last<W: Write>(session: &mut Session, bytes: &[u8], writer: &mut W) -> Result<(), Failure>
-    ensures { LinesAnswered session.old session.new result (W.contents writer.old) (W.contents writer.new)
+fn answer_last<W: Write>(session: &mut Session, bytes: &[u8], writer: &mut W) -> io::Result<()>
+    ensures { LinesAnswered session.old session.new (IsOk result) (W.contents writer.old) (W.contents writer.new)
         (but_empty_end (bytes.now ∷ [])) }
 {
     if bytes.is_empty() {
         return Ok(());
     }
     answer(session, bytes, writer)?;
-    flush(writer)
+    writer.flush()
 }
 
 // Moves the front of what stands from a place up to another to the beginning, and tells how much that is.
@@ -87,22 +72,25 @@ fn keep(held: &mut [u8; HELD], from: usize, to: usize) -> usize
     kept
 }
 
-// Reads once more where a read was interrupted.
-fn read_some<R: Read>(reader: &mut R, bytes: &mut [u8]) -> Result<usize, Failure>
+// Reads once more where a read was interrupted. So many interruptions never come: the count makes the call end for
+// every reader.
+fn read_some<R: Read>(reader: &mut R, bytes: &mut [u8]) -> io::Result<usize>
     ensures read { ReadConsumes (R.remaining reader.old) (R.remaining reader.new) result bytes.new }
     ensures bound { ReadsAtMost result bytes.new }
+    ensures retried { IfErr result (λ e. error_kind e ≢ ErrorKind.Interrupted) }
 {
     for _ in 0..u64::MAX {
         match reader.read(bytes) {
             Ok(count) => return Ok(count),
             Err(e) if e.kind() == ErrorKind::Interrupted => {}
-            Err(e) => return Err(Failure::Reading(e)),
+            Err(e) => return Err(e),
         }
     }
-    Err(Failure::Reading(io::Error::from(ErrorKind::Interrupted)))
+    Err(io::Error::from(ErrorKind::TimedOut))
 }
 
-// Answers the lines of all that a reader has left, as soon as they are there. Memory does not grow with them.
+// Answers the lines of all that a reader has left, as soon as they are there. Memory does not grow with them. So many reads
+// never come, either.
 pub fn serve<R: Read, W: Write>(
     session: &mut Session,
     reader: &mut R,
@@ -114,13 +102,22 @@ pub fn serve<R: Read, W: Write>(
     let mut held = [0; HELD];
     let mut kept = 0;
     for _ in 0..u64::MAX {
-        let count = read_some(reader, &mut held[kept..])?;
+        let count = match read_some(reader, &mut held[kept..]) {
+            Ok(count) => count,
+            Err(e) => return Err(Failure::Reading(e)),
+        };
         if count == 0 {
-            return answer_last(session, &held[..kept], writer);
+            return match answer_last(session, &held[..kept], writer) {
+                Ok(()) => Ok(()),
+                Err(e) => Err(Failure::Writing(e)),
+            };
         }
         let to = kept + count;
-        let from = answer_ended(session, &held[..to], writer)?;
+        let from = match answer_ended(session, &held[..to], writer) {
+            Ok(from) => from,
+            Err(e) => return Err(Failure::Writing(e)),
+        };
         kept = keep(&mut held, from, to);
     }
-    Err(Failure::Reading(io::Error::from(ErrorKind::Interrupted)))
+    Err(Failure::Reading(io::Error::from(ErrorKind::TimedOut)))
 }

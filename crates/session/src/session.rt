@@ -10,6 +10,7 @@ use book::payment::Payment;
 use book::statement::Statement;
 use lines::entry::LineEntry;
 use lines::reading::read;
+use pages::page::PAGE_ENTRIES;
 use rules::largest::LargestRemainder;
 use sheets::hour_sheet::HourSheet;
 use tariff::refusal::Refusal;
@@ -18,8 +19,8 @@ use tariff::refusal::Refusal;
 pub struct Session {
     pub(crate) sheet: HourSheet,
     pub(crate) book: Option<Book>,
-    heavy: [Payment; 144],
-    light: [Payment; 144],
+    heavy: [Payment; PAGE_ENTRIES],
+    light: [Payment; PAGE_ENTRIES],
 }
 
 impl Session {
@@ -30,8 +31,8 @@ impl Session {
         Session {
             sheet: HourSheet::new(),
             book: None,
-            heavy: [Payment::NONE; 144],
-            light: [Payment::NONE; 144],
+            heavy: [Payment::NONE; PAGE_ENTRIES],
+            light: [Payment::NONE; PAGE_ENTRIES],
         }
     }
 

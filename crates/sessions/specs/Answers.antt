@@ -1,5 +1,5 @@
 -- What the lines of a text are answered. Assumes nothing.
-use Rattle.std.specs.Prelude.{ℕ, List, [], Some, Ok}
+use Rattle.std.specs.Prelude.{ℕ, List, [], Some}
 use Rattle.text.specs.Lines.{lines_in}
 use Rattle.session.specs.Fresh.{IsFresh}
 use Rattle.session.specs.Texts.{LinesAnswered}
@@ -10,4 +10,4 @@ pub record AreAnswers (text answers : List ℕ) : Type 0 where
   pub start : Session
   pub left : Session
   pub fresh : IsFresh start
-  pub answered : LinesAnswered {V = Unit {0}} {E = Unit {0}} start left (Ok tt) (Some []) (Some answers) (lines_in text)
+  pub answered : LinesAnswered start left (Unit {0}) (Some []) (Some answers) (lines_in text)

@@ -1,5 +1,5 @@
 -- What a verdict on a session says. Assumes nothing.
-use Rattle.std.specs.Prelude.{◌≡◌, ℕ, Bool, true, false, List, ◌++◌, codes, length}
+use Rattle.std.specs.Prelude.{◌≡◌, ℕ, Bool, true, false, List, ◌++◌, codes, length, Result, Ok, Err}
 use Rattle.std.specs.Fmt.{decimal}
 use Rattle.text.specs.Lines.{lines_in}
 use Rattle.sessions.specs.Answers.{AreAnswers}
@@ -19,10 +19,18 @@ pub record IsJudged (text expected : List ℕ) (verdict : Verdict) : Type 0 wher
   pub answered : AreAnswers text answers
   pub says : Says verdict text answers expected
 
+-- a verdict on the answers to some text
+abbrev pub IsReplayed : Verdict → Type 0
+IsReplayed verdict = (text expected : List ℕ) × IsJudged text expected verdict
+
 -- whether all was as expected
 abbrev pub finds_no_fault : Verdict → Bool
 finds_no_fault (AsExpected lines) = true
 finds_no_fault (Differs line) = false
+
+abbrev pub is_faultless : {E : Type 0} → Result Verdict E → Bool
+is_faultless (Ok verdict) = finds_no_fault verdict
+is_faultless (Err e) = false
 
 -- what is printed of a verdict
 abbrev pub verdict_text : Verdict → List ℕ

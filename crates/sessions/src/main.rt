@@ -7,6 +7,9 @@ mod judging;
 mod names;
 mod verdict;
 
+ghost use Rattle.std.specs.Prelude.{◌≡◌, ◌&&◌, IfOk};
+ghost use Rattle.sessions.specs.Verdicts.{IsReplayed, is_faultless};
+
 use crate::judging::judge;
 use crate::names::NAMES;
 use crate::verdict::Verdict;
@@ -14,26 +17,34 @@ use std::process::ExitCode;
 use std::rt::{Env, Files};
 use std::{env, fs, io};
 
-// Replays the session of that name.
-fn replay<R: Files + AllocGlobal>(rt: &R, folder: &str, name: &str) -> io::Result<Verdict> {
+// Replays the session of that name, whatever its two files have.
+fn replay<R: Files + AllocGlobal>(rt: &R, folder: &str, name: &str) -> io::Result<Verdict>
+    ensures { IfOk result IsReplayed }
+{
     let text = fs::read(rt, format!(in rt.alloc(); "{folder}/{name}.txt")?)?;
     let expected = fs::read(rt, format!(in rt.alloc(); "{folder}/{name}.answers")?)?;
     judge(rt.alloc(), &text, &expected)
+}
+
+// Whether all was as expected so far, and here too. What could not be read was not.
+fn still_faultless(so_far: bool, replayed: &io::Result<Verdict>) -> bool
+    ensures { result ≡ (so_far && is_faultless replayed.now) }
+{
+    match replayed {
+        Ok(verdict) => so_far && verdict.finds_no_fault(),
+        Err(_) => false,
+    }
 }
 
 // Replays all sessions, writes a line for each, and tells whether each was answered as expected.
 fn replay_all<R: Files + AllocGlobal + Print>(rt: &R, folder: &str) -> io::Result<bool> {
     let mut all = true;
     for name in NAMES {
-        match replay(rt, folder, name) {
-            Ok(verdict) => {
-                println!(rt; "{name}: {verdict}")?;
-                all &= verdict.finds_no_fault();
-            }
-            Err(e) => {
-                println!(rt; "{name}: {e}")?;
-                all = false;
-            }
+        let replayed = replay(rt, folder, name);
+        all = still_faultless(all, &replayed);
+        match replayed {
+            Ok(verdict) => println!(rt; "{name}: {verdict}")?,
+            Err(e) => println!(rt; "{name}: {e}")?,
         }
     }
     Ok(all)

@@ -2,6 +2,7 @@
 use Rattle.std.proofs.Common.{◌≡◌, ◌≢◌, ℕ, zero, suc, List, [], ◌∷◌, ◌++◌, take, refl, ◌∙◌, ap, subst, inl, inr}
 use Rattle.std.proofs.lemmas.Bool.{cases_eq, eq-eqb, ne_eqb}
 use Rattle.text.specs.Pieces.{onto, cut}
+use Rattle.text.specs.PieceLaws.{Unbroken, AllUnbroken}
 
 -- bytes put before the first of some pieces
 abbrev pub before_first : List ℕ → List (List ℕ) → List (List ℕ)
@@ -61,20 +62,11 @@ module _ (stop : ℕ) where
   cut_more bytes more pieces last e =
       cut_both bytes more ∙ (ap (λ all. joined all (cut stop more)) e ∙ joined_last pieces last (cut stop more))
 
-  -- bytes in which nothing stops a piece
-  abbrev pub Unbroken : List ℕ → Type 0
-  Unbroken [] = Unit {0}
-  Unbroken (byte ∷ bytes) = (byte ≢ stop) × Unbroken bytes
-
-  abbrev AllUnbroken : List (List ℕ) → Type 0
-  AllUnbroken [] = Unit {0}
-  AllUnbroken (piece ∷ pieces) = Unbroken piece × AllUnbroken pieces
-
-  onto_unbroken : (byte : ℕ) (pieces : List (List ℕ)) → byte ≢ stop → AllUnbroken pieces → AllUnbroken (onto byte pieces)
+  onto_unbroken : (byte : ℕ) (pieces : List (List ℕ)) → byte ≢ stop → AllUnbroken stop pieces → AllUnbroken stop (onto byte pieces)
   onto_unbroken byte [] other all = ((other, tt), tt)
   onto_unbroken byte (piece ∷ pieces) other all = ((other, all.0), all.1)
 
-  cut_unbroken : (bytes : List ℕ) → AllUnbroken (cut stop bytes)
+  pub cut_unbroken : (bytes : List ℕ) → AllUnbroken stop (cut stop bytes)
   cut_unbroken [] = (tt, tt)
   cut_unbroken (byte ∷ bytes) =
       elim (cases_eq byte stop) [
@@ -82,16 +74,16 @@ module _ (stop : ℕ) where
         | inr e ↦ rw (ne_eqb byte stop e) (onto_unbroken byte (cut stop bytes) e (cut_unbroken bytes))
       ]
 
-  last_unbroken : (pieces : List (List ℕ)) (last : List ℕ) → AllUnbroken (pieces ++ (last ∷ [])) → Unbroken last
+  last_unbroken : (pieces : List (List ℕ)) (last : List ℕ) → AllUnbroken stop (pieces ++ (last ∷ [])) → Unbroken stop last
   last_unbroken [] last all = all.0
   last_unbroken (piece ∷ pieces) last all = last_unbroken pieces last all.1
 
-  take_unbroken : (n : ℕ) (bytes : List ℕ) → Unbroken bytes → Unbroken (take n bytes)
+  take_unbroken : (n : ℕ) (bytes : List ℕ) → Unbroken stop bytes → Unbroken stop (take n bytes)
   take_unbroken zero bytes h = tt
   take_unbroken (suc n) [] h = tt
   take_unbroken (suc n) (byte ∷ bytes) h = (h.0, take_unbroken n bytes h.1)
 
-  pub unbroken_cut : (bytes : List ℕ) → Unbroken bytes → cut stop bytes ≡ bytes ∷ []
+  pub unbroken_cut : (bytes : List ℕ) → Unbroken stop bytes → cut stop bytes ≡ bytes ∷ []
   unbroken_cut [] h = refl
   unbroken_cut (byte ∷ bytes) h = rw (ne_eqb byte stop h.0) (ap (onto byte) (unbroken_cut bytes h.1))
 
@@ -99,5 +91,5 @@ module _ (stop : ℕ) where
   pub cut_front : (bytes more : List ℕ) (pieces : List (List ℕ)) (last : List ℕ) (n : ℕ) → cut stop bytes ≡ pieces ++ (last ∷ [])
       → cut stop (take n last ++ more) ≡ before_first (take n last) (cut stop more)
   cut_front bytes more pieces last n e =
-      let all : AllUnbroken (pieces ++ (last ∷ [])) = subst AllUnbroken e (cut_unbroken bytes) in
+      let all : AllUnbroken stop (pieces ++ (last ∷ [])) = subst (AllUnbroken stop) e (cut_unbroken bytes) in
       cut_more (take n last) more [] (take n last) (unbroken_cut (take n last) (take_unbroken n last (last_unbroken pieces last all)))

@@ -5,4 +5,5 @@ pub mod Signs
 pub mod Placing
 pub mod Digits
 pub mod Joins
+pub mod Parting
 pub mod Counts

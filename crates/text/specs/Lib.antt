@@ -1,4 +1,5 @@
 pub mod Pieces
+pub mod PieceLaws
 pub mod Fields
 pub mod Lines
 pub mod Figures

@@ -3,4 +3,5 @@
 
 pub mod fields;
 pub mod figures;
+pub mod laws;
 pub mod pieces;

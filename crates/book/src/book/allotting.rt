@@ -8,7 +8,7 @@ ghost use Rattle.tally.specs.Numbered.{listed};
 ghost use Rattle.tally.specs.States.{hour_at, hour_named};
 ghost use Rattle.tariff.specs.Answers.{told, ◌then◌};
 ghost use Rattle.book.specs.Books.{state_of};
-ghost use Rattle.book.specs.Goes.{Goes};
+ghost use Rattle.book.specs.Stepped.{Stepped};
 ghost use Rattle.book.specs.Records.{at};
 ghost use Rattle.book.specs.RuleMoves.{AllotMoved};
 
@@ -146,7 +146,7 @@ impl Book {
     // Allots an hour: its requests are met from offers and surpluses, as the rule divides them, and its entries stand
     // from then on.
     pub fn allot<R: DivisionRule>(&mut self, hour: i64, rule: &mut R) -> Result<(), Refusal>
-        ensures goes { Goes self.old (allot_hour hour R.LIMIT (R.meaning rule.old)) (told result) self.new }
+        ensures stepped { Stepped self.old (allot_hour hour R.LIMIT (R.meaning rule.old)) (told result) self.new }
         ensures moved { AllotMoved R.moves (told result) self.old.pool.parties (hour_named (state_of self.old) hour)
             (R.meaning rule.old) (R.meaning rule.new) }
     {

@@ -3,7 +3,7 @@ ghost use Rattle.std.specs.Prelude.{◌≡◌, ◌≢◌, IfOk, length};
 ghost use Rattle.tariff.specs.Answers.{told, granted};
 ghost use Rattle.book.specs.Books.{state_of};
 ghost use Rattle.book.specs.Closings.{SettledBy, close_answer};
-ghost use Rattle.book.specs.Enters.{Did};
+ghost use Rattle.book.specs.EntryStands.{EntryMade};
 
 use crate::book::Book;
 use crate::book::closing::posting::post;
@@ -48,10 +48,17 @@ impl Book {
         rule: &mut R,
         statement: &mut Statement<'_>,
     ) -> Result<(), Refusal>
-        ensures did { Did (S.tables source.now) R.LIMIT R.moves Entry.Close self.old (R.meaning rule.old)
+        ensures did { EntryMade (record {
+          entry = Entry.Close;
+          tables = S.tables source.now;
+          most = R.LIMIT;
+          moves = R.moves;
+          first = R.meaning rule.old;
+          last = R.meaning rule.new;
+          answered = told result;
+        }) self.old
             (record { old = statement.old.heavy.now; new = statement.new.heavy.now })
-            (record { old = statement.old.light.now; new = statement.new.light.now })
-            (told result) self.new (R.meaning rule.new) }
+            (record { old = statement.old.light.now; new = statement.new.light.now }) self.new }
         ensures heavy { statement.new.heavy.ghost_name ≡ statement.old.heavy.ghost_name }
         ensures light { statement.new.light.ghost_name ≡ statement.old.light.ghost_name }
     {

@@ -6,7 +6,7 @@ ghost use Rattle.tariff.specs.Answers.{require, told};
 ghost use Rattle.tariff.specs.Blocks.{last_day};
 ghost use Rattle.tariff.specs.Figures.{between};
 ghost use Rattle.tariff.specs.declared.refusal.Refusal.TheVariants.{Day, Month};
-ghost use Rattle.book.specs.Goes.{Goes};
+ghost use Rattle.book.specs.Stepped.{Stepped};
 
 use crate::book::Book;
 use crate::records::{DayRecord, YearRecord};
@@ -43,7 +43,7 @@ impl Book {
 
     // Opens a day, of which every figure is 0 and no hour allotted.
     pub fn open_day(&mut self, day: i64, kind: DayKind, month: i64) -> Result<(), Refusal>
-        ensures { Goes self.old (open_day day kind month) (told result) self.new }
+        ensures { Stepped self.old (open_day day kind month) (told result) self.new }
     {
         self.require_shut()?;
         let number = self.later_day(day)?;
@@ -55,7 +55,7 @@ impl Book {
 
     // Drops the open day, its number and month used up.
     pub fn void_day(&mut self) -> Result<(), Refusal>
-        ensures { Goes self.old void_day (told result) self.new }
+        ensures { Stepped self.old void_day (told result) self.new }
     {
         self.require_open()?;
         self.day.is_open = false;
@@ -64,7 +64,7 @@ impl Book {
 
     // Starts a program year.
     pub fn start_year(&mut self) -> Result<(), Refusal>
-        ensures { Goes self.old start_year (told result) self.new }
+        ensures { Stepped self.old start_year (told result) self.new }
     {
         self.require_shut()?;
         self.year = YearRecord::fresh();

@@ -8,7 +8,7 @@ ghost use Rattle.tariff.specs.Answers.{told, require, ◌then◌};
 ghost use Rattle.tariff.specs.Division.{Moved};
 ghost use Rattle.tariff.specs.declared.refusal.Refusal.TheVariants.{HourNotAllotted, AboveRequest};
 ghost use Rattle.book.specs.Books.{state_of};
-ghost use Rattle.book.specs.Goes.{Goes};
+ghost use Rattle.book.specs.Stepped.{Stepped};
 ghost use Rattle.book.specs.Records.{at};
 
 use crate::book::Book;
@@ -73,7 +73,7 @@ impl Book {
         mw: i64,
         rule: &mut R,
     ) -> Result<(), Refusal>
-        ensures goes { Goes self.old (deploy hour buyer mw R.LIMIT (R.meaning rule.old)) (told result) self.new }
+        ensures stepped { Stepped self.old (deploy hour buyer mw R.LIMIT (R.meaning rule.old)) (told result) self.new }
         ensures moved { Moved R.moves (told result) (R.meaning rule.old) (unsigned_abs mw)
             (pairs_of self.old.pool.parties (hour_named (state_of self.old) hour) (unsigned_abs buyer))
             (R.meaning rule.new) }

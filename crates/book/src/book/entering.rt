@@ -1,7 +1,7 @@
 // Any of the ten calls, as an entry.
 ghost use Rattle.std.specs.Prelude.{◌≡◌};
 ghost use Rattle.tariff.specs.Answers.{told};
-ghost use Rattle.book.specs.Enters.{Enters};
+ghost use Rattle.book.specs.EntryStands.{EntryStands};
 
 use crate::book::Book;
 use crate::entry::Entry;
@@ -20,10 +20,17 @@ impl Book {
         rule: &mut R,
         statement: &mut Statement<'_>,
     ) -> Result<(), Refusal>
-        ensures enters { Enters (S.tables source.now) R.LIMIT R.moves entry self.old (R.meaning rule.old)
+        ensures enters { EntryStands (record {
+          entry = entry;
+          tables = S.tables source.now;
+          most = R.LIMIT;
+          moves = R.moves;
+          first = R.meaning rule.old;
+          last = R.meaning rule.new;
+          answered = told result;
+        }) self.old
             (record { old = statement.old.heavy.now; new = statement.new.heavy.now })
-            (record { old = statement.old.light.now; new = statement.new.light.now })
-            (told result) self.new (R.meaning rule.new) }
+            (record { old = statement.old.light.now; new = statement.new.light.now }) self.new }
         ensures heavy { statement.new.heavy.ghost_name ≡ statement.old.heavy.ghost_name }
         ensures light { statement.new.light.ghost_name ≡ statement.old.light.ghost_name }
     {

@@ -38,7 +38,7 @@ impl Book {
     {
         let record = self.hour_record(hour);
         match record.stage {
-            Stage::Entered => 0,
+            Stage::Unallotted => 0,
             Stage::Allotted => get(&record.pairs, seller, buyer),
         }
     }

@@ -1,16 +1,15 @@
 // The prices by which a close settles the day.
 ghost use Rattle.std.specs.Prelude.{◌≡◌, IfOk};
-ghost use Rattle.tally.specs.DayPrices.{is_held_in, needed_prices, needed_quotes_answer};
+ghost use Rattle.tally.specs.DayPrices.{needed_prices, needed_quotes_answer};
 ghost use Rattle.tariff.specs.Answers.{in_order, told};
 ghost use Rattle.tariff.specs.Blocks.{hours_of_day};
-ghost use Rattle.book.specs.Asking.{unasked};
 ghost use Rattle.book.specs.Books.{state_of};
 ghost use Rattle.book.specs.PricedDays.{prices_in};
 
-use crate::block_prices::{BlockPrice, BlockPrices};
 use crate::book::Book;
 use crate::places::HourPlace;
 use crate::priced_day::PricedDay;
+use crate::priced_day::pricing::by_block;
 use crate::records::HOURS;
 use tariff::blocks::Block;
 use tariff::refusal::Refusal;
@@ -20,17 +19,6 @@ mod asking;
 mod hour_prices;
 
 impl Book {
-    // A block's day-ahead price before any hour is asked.
-    fn unasked(&self, block: Block) -> BlockPrice
-        ensures { result ≡ unasked (is_held_in (state_of self.now) block) }
-    {
-        if self.is_held_in(block) {
-            BlockPrice::Unasked
-        } else {
-            BlockPrice::Unneeded
-        }
-    }
-
     // The prices that a close needs, each asked for once, or the first of them that is missing.
     pub(crate) fn price<S: PriceSource>(&self, source: &S) -> Result<PricedDay, Refusal>
         ensures answer { told result
@@ -38,22 +26,21 @@ impl Book {
         ensures value { IfOk result (λ day. prices_in day ≡ needed_prices (state_of self.now) (S.tables source.now)) }
         ensures kind { IfOk result (λ day. day.kind ≡ self.now.day.kind) }
     {
-        let mut prices = BlockPrices {
-            heavy: self.unasked(Block::Heavy),
-            light: self.unasked(Block::Light),
-        };
+        let heavy = self.ask_block(source, Block::Heavy);
+        let light = self.ask_block(source, Block::Light);
         let mut real_time = [0; HOURS];
         let mut factors = [0; HOURS];
         for place in 0..HOURS {
-            let quotes = self.ask_hour(source, HourPlace { place }, prices)?;
-            prices = quotes.prices;
+            let hour = HourPlace { place };
+            let price = by_block(heavy, light, hour.block(self.day.kind));
+            let quotes = self.ask_hour(source, hour, price)?;
             real_time[place] = quotes.real_time;
             factors[place] = quotes.factor;
         }
         Ok(PricedDay::new(
             self.day.kind,
-            prices.heavy.cents(),
-            prices.light.cents(),
+            heavy.cents.unwrap_or(0),
+            light.cents.unwrap_or(0),
             real_time,
             factors,
         ))

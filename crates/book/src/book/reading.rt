@@ -8,8 +8,8 @@ use crate::places::HourPlace;
 use tariff::blocks::Block;
 
 mod accounts;
+mod holding;
 mod pair_page;
-mod party_holdings;
 mod party_years;
 
 impl Book {

@@ -5,12 +5,12 @@ ghost use Rattle.tally.specs.States.{IsParty};
 ghost use Rattle.tally.specs.Years.{day_charges};
 ghost use Rattle.book.specs.AllottedHours.{Suffice};
 ghost use Rattle.book.specs.Books.{state_of};
-ghost use Rattle.book.specs.CutTables.{HasCuts, SmallEntries};
+ghost use Rattle.book.specs.CutTables.{HasCuts, SmallCuts};
 ghost use Rattle.book.specs.Pages.{nothing};
 ghost use Rattle.book.specs.Payments.{payment_of};
 ghost use Rattle.book.specs.PricedDays.{prices_in};
 ghost use Rattle.book.specs.Records.{at};
-ghost use Rattle.book.specs.Settled.{PaidIn, paid, paid_at};
+ghost use Rattle.book.specs.PaidTables.{PaidIn, paid, paid_at};
 ghost use Rattle.book.specs.Sharing.{shares_in};
 
 use crate::block_hours::BlockHours;
@@ -22,6 +22,7 @@ use crate::places::PartyPlace;
 use crate::priced_day::PricedDay;
 use crate::records::{ByParty, PARTIES};
 use tariff::blocks::Block;
+use tariff::charges::Cover;
 
 mod allotted;
 mod blocks;
@@ -57,7 +58,7 @@ impl Book {
         requires buyer { buyer.place < self.now.pool.parties }
         requires share { share ≤ 960000000000 }
         requires cuts { HasCuts (state_of self.now) (prices_in prices.now) (suc seller.place) cuts.now.rows }
-        requires small { SmallEntries cuts.now.rows }
+        requires small { SmallCuts cuts.now.rows }
         ensures { payment_of result
             ≡ paid (state_of self.now) (prices_in prices.now) hours.now.block (suc seller.place)
             (suc buyer.place) share }
@@ -66,8 +67,8 @@ impl Book {
             holdback: self.holdback(prices, hours, seller, buyer),
             energy: self.energy(prices, hours, seller, buyer),
             make_whole: share as i64,
-            to_pool: self.to_pool(cuts, hours.block, seller, buyer),
-            to_buyer: self.to_buyer(cuts, hours.block, seller, buyer),
+            to_pool: self.to_payee(cuts, hours.block, Cover::Covered, seller, buyer),
+            to_buyer: self.to_payee(cuts, hours.block, Cover::Uncovered, seller, buyer),
         }
     }
 
@@ -85,7 +86,7 @@ impl Book {
         requires seller { seller.place < self.now.pool.parties }
         requires shares { (buyer : ℕ) → buyer < self.now.pool.parties → slice_index shares.now buyer ≤ 960000000000 }
         requires cuts { HasCuts (state_of self.now) (prices_in prices.now) (suc seller.place) cuts.now.rows }
-        requires small { SmallEntries cuts.now.rows }
+        requires small { SmallCuts cuts.now.rows }
         ensures { (buyer : ℕ) → buyer < 12 → payment_of (slice_index_or result buyer nothing)
             ≡ paid_at (state_of self.now) (prices_in prices.now) hours.now.block seller.place buyer
             (slice_index shares.now buyer) }

@@ -1,7 +1,7 @@
 // The prices of a day's hours.
 ghost use Rattle.std.specs.Prelude.{◌≡◌, ℕ, ◌≤◌, pos, unsigned_abs, slice_index, slice_index_or};
 ghost use Rattle.tariff.specs.Prices.{hour_prices, initial_terms};
-ghost use Rattle.book.specs.HourPricing.{block_price, day_prices};
+ghost use Rattle.book.specs.HourPricing.{by_block, day_prices};
 ghost use Rattle.book.specs.PricedDays.{prices_in};
 
 use crate::places::HourPlace;
@@ -10,9 +10,9 @@ use crate::records::{ByHour, HOURS};
 use tariff::blocks::{Block, DayKind};
 use tariff::prices::{HourPrices, Terms};
 
-// The price of a block.
-fn block_price(heavy: i64, light: i64, block: Block) -> i64
-    ensures { result ≡ block_price heavy light block }
+// Which of two stands for a block.
+pub(crate) fn by_block<T: Copy>(heavy: T, light: T, block: Block) -> T
+    ensures { result ≡ by_block heavy light block }
 {
     match block {
         Block::Heavy => heavy,
@@ -53,7 +53,7 @@ impl PricedDay {
         for place in 0..HOURS {
             let hour = HourPlace { place };
             hours[place] = hour_prices(
-                block_price(heavy, light, hour.block(kind)),
+                by_block(heavy, light, hour.block(kind)),
                 real_time[place],
                 factors[place],
             );

@@ -2,7 +2,7 @@
 ghost use Rattle.std.specs.Prelude.{◌≡◌, length};
 ghost use Rattle.pages.specs.Pages.{page_answer};
 ghost use Rattle.tariff.specs.Answers.{told, ◌then◌};
-ghost use Rattle.book.specs.Closes.{SamePages};
+ghost use Rattle.book.specs.SameStatement.{SameStatement};
 ghost use Rattle.book.specs.Pages.{statement_on};
 ghost use Rattle.book.specs.Payments.{statement_in};
 
@@ -29,7 +29,7 @@ impl Statement<'_> {
     )
         requires heavy { length self.old.heavy.now ≡ 144 }
         requires light { length self.old.light.now ≡ 144 }
-        ensures pages { SamePages (statement_on self.new.heavy.now self.new.light.now)
+        ensures pages { SameStatement (statement_on self.new.heavy.now self.new.light.now)
             (statement_in heavy.now light.now) }
         ensures heavy_count { length self.new.heavy.now ≡ length self.old.heavy.now }
         ensures light_count { length self.new.light.now ≡ length self.old.light.now }

@@ -27,4 +27,5 @@ returns-clause-moved g c =
 pub returns-clause-within : goal.returns-clause-within
 returns-clause-within g c =
     let long : length c.args.claims.now ≡ 12 = search rules in
-    division_within c.args.parties c.args.claims.now long c.requires c.in_ok-divide.ensures (g.met.R.DivisionRule.lawful c.args.rule.now) refl
+    division_within c.args.parties c.args.claims.now long c.requires c.in_ok-divide.ensures (g.met.R.DivisionRule.lawful c.args.rule.now)
+    refl

@@ -7,7 +7,11 @@ use Rattle.book.proofs.laying.lay.Goals as goal
 
 pub loop-place-init : goal.loop-place-init
 loop-place-init c =
-    record { start = sym (total_none (at 0 c.args.requests.now)); small = omega arith; rows = record { long = refl; here = λ k l. absurd (omega arith) } }
+    record {
+      start = sym (total_none (at 0 c.args.requests.now));
+      small = omega arith;
+      rows = record { long = refl; here = λ k l. absurd (omega arith) };
+    }
 
 pub overflow_add-end : goal.overflow_add-end
 overflow_add-end c = let asked = c.requires.asked (suc c.loop-place.place) in omega arith
@@ -31,4 +35,5 @@ loop-place-preserved c =
 pub returns : goal.returns
 returns c =
     let long : length c.args.requests.now ≡ 12 = search rules in
-    rows_all c.loop-place.rows (at 0 c.args.holdings.now) c.args.requests.now c.loop-place.place long c.loop-place-test.false c.loop-place.invariant.rows
+    rows_all c.loop-place.rows (at 0 c.args.holdings.now) c.args.requests.now c.loop-place.place long c.loop-place-test.false
+    c.loop-place.invariant.rows

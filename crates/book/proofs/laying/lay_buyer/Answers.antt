@@ -7,7 +7,11 @@ use Rattle.book.proofs.laying.lay_buyer.Goals as goal
 
 pub loop-place-init : goal.loop-place-init
 loop-place-init c =
-    record { start = sym (total_none (at 0 c.args.holdings.now)); small = omega arith; filled = record { long = refl; here = λ k l. absurd (omega arith) } }
+    record {
+      start = sym (total_none (at 0 c.args.holdings.now));
+      small = omega arith;
+      filled = record { long = refl; here = λ k l. absurd (omega arith) };
+    }
 
 pub overflow_add-last : goal.overflow_add-last
 overflow_add-last c = let held = c.requires (suc c.loop-place.place) in omega arith
@@ -24,11 +28,14 @@ loop-place-preserved c =
     record {
       start = rw add-one (omega arith);
       small = omega arith;
-      filled = filled_more 0 c.loop-place.pairs (stretch holdings c.args.start c.args.end) place _ c.loop-place-test.true c.loop-place.invariant.filled
+      filled =
+          filled_more 0 c.loop-place.pairs (stretch holdings c.args.start c.args.end) place _ c.loop-place-test.true
+          c.loop-place.invariant.filled
           (here ∙ omega arith);
     }
 
 pub returns : goal.returns
 returns c =
     let long : length c.args.holdings.now ≡ 12 = search rules in
-    row_all c.args.holdings.now long c.loop-place.pairs c.args.start c.args.end c.loop-place.place c.loop-place-test.false c.loop-place.invariant.filled
+    row_all c.args.holdings.now long c.loop-place.pairs c.args.start c.args.end c.loop-place.place c.loop-place-test.false
+    c.loop-place.invariant.filled

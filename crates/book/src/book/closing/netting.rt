@@ -4,7 +4,7 @@ ghost use Rattle.tally.specs.Numbered.{total_z};
 ghost use Rattle.tally.specs.SizeLaws.{SmallPayment};
 ghost use Rattle.tally.specs.Statements.{buyer_pays, net, seller_pays};
 ghost use Rattle.book.specs.Payments.{payment_of, payments_in, statement_in};
-ghost use Rattle.book.specs.Posting.{SmallEntries, SmallPage, SmallStatement};
+ghost use Rattle.book.specs.Posting.{SmallRow, SmallPage, SmallStatement};
 ghost use Rattle.book.specs.Posting.{buyer_gets, entries_in, party_gets, seller_gets};
 
 use crate::payment::Payment;
@@ -59,7 +59,7 @@ fn pool_gets(payment: Payment) -> i64
 // What a seller gets by its row.
 fn row_to_seller(row: &ByParty<Payment>, parties: usize) -> i64
     requires few { parties ≤ 12 }
-    requires small { SmallEntries parties (entries_in row.now) }
+    requires small { SmallRow parties (entries_in row.now) }
     ensures value { result ≡ total_z (λ buyer. seller_gets (entries_in row.now buyer)) parties }
     ensures size { unsigned_abs result ≤ 1200000000000000 }
 {
@@ -73,7 +73,7 @@ fn row_to_seller(row: &ByParty<Payment>, parties: usize) -> i64
 // What the pool gets by a seller's row.
 fn row_to_pool(row: &ByParty<Payment>, parties: usize) -> i64
     requires few { parties ≤ 12 }
-    requires small { SmallEntries parties (entries_in row.now) }
+    requires small { SmallRow parties (entries_in row.now) }
     ensures value { result ≡ total_z (λ buyer. (entries_in row.now buyer).to_pool) parties }
     ensures size { unsigned_abs result ≤ 240000000000000 }
 {

@@ -1,23 +1,29 @@
-// Asking a source for what a close needs of one hour, and for nothing else.
+// Asking a source for what a close needs, and for nothing else.
 ghost use Rattle.std.specs.Prelude.{◌≡◌, suc, pos, IfOk};
-ghost use Rattle.tally.specs.DayPrices.{block_at, if_needed, is_priced, needed_prices, needed_quotes_answer};
+ghost use Rattle.tally.specs.DayPrices.{block_at, if_needed, needed_prices, needed_quotes_answer};
 ghost use Rattle.tally.specs.DayPrices.{there_if_needed};
 ghost use Rattle.tariff.specs.Answers.{Gives, require, told};
 ghost use Rattle.tariff.specs.declared.refusal.Quote.TheVariants.{DayAhead, RealTime, Factor};
 ghost use Rattle.tariff.specs.declared.refusal.Refusal.TheVariants.{MissingPrice};
-ghost use Rattle.book.specs.Asking.{AskedTo, Known, Settled};
+ghost use Rattle.book.specs.BlockQuotes.{block_quote};
 ghost use Rattle.book.specs.Books.{state_of};
 
-use crate::block_prices::{BlockPrice, BlockPrices};
 use crate::book::Book;
 use crate::places::HourPlace;
+use tariff::blocks::Block;
 use tariff::refusal::{Quote, Refusal};
 use tariff::source::PriceSource;
 
-// One hour's figures, and the day-ahead prices after it.
+// A block's day-ahead price, which is asked for where it is needed.
+#[derive(Clone, Copy)]
+pub(crate) struct BlockQuote {
+    pub(crate) is_needed: bool,
+    pub(crate) cents: Option<i64>,
+}
+
+// One hour's figures; what is not needed stands at 0.
 #[derive(Clone, Copy)]
 pub(crate) struct HourQuotes {
-    pub(crate) prices: BlockPrices,
     pub(crate) real_time: i64,
     pub(crate) factor: u64,
 }
@@ -32,33 +38,30 @@ fn missing(hour: HourPlace, quote: Quote) -> Refusal
     }
 }
 
+// That a block's price, if it is needed, is not missing at one of its hours.
+fn require_quote(hour: HourPlace, price: BlockQuote) -> Result<(), Refusal>
+    ensures { told result
+        ≡ require (there_if_needed price.is_needed price.cents) (MissingPrice (suc hour.place) DayAhead) }
+{
+    if price.is_needed && price.cents.is_none() {
+        Err(missing(hour, Quote::DayAhead))
+    } else {
+        Ok(())
+    }
+}
+
 impl Book {
-    // The day-ahead price of an hour's block, after that hour.
-    fn ask_day_ahead<S: PriceSource>(
-        &self,
-        source: &S,
-        hour: HourPlace,
-        price: BlockPrice,
-    ) -> Result<BlockPrice, Refusal>
-        requires { Known (state_of self.now) (S.tables source.now)
-            (block_at (state_of self.now) (suc hour.place)) price }
-        ensures answer { let block = block_at (state_of self.now) (suc hour.place) in
-            let quote = (S.tables source.now).day_ahead self.now.day.number block in
-            told result ≡ require (there_if_needed (is_priced (state_of self.now) (suc hour.place)) quote)
-            (MissingPrice (suc hour.place) DayAhead) }
-        ensures value { IfOk result (Settled (state_of self.now) (S.tables source.now)
-            (block_at (state_of self.now) (suc hour.place))) }
+    // The day-ahead price of a block, if it is needed.
+    pub(crate) fn ask_block<S: PriceSource>(&self, source: &S, block: Block) -> BlockQuote
+        ensures { result ≡ block_quote (state_of self.now) (S.tables source.now) block }
     {
-        match price {
-            BlockPrice::Unasked => match source.day_ahead(
-                self.day.number,
-                hour.block(self.day.kind),
-            ) {
-                Some(cents) => Ok(BlockPrice::Asked { cents }),
-                None => Err(missing(hour, Quote::DayAhead)),
-            },
-            BlockPrice::Unneeded | BlockPrice::Asked { .. } => Ok(price),
-        }
+        let is_needed = self.is_held_in(block);
+        let cents = if is_needed {
+            source.day_ahead(self.day.number, block)
+        } else {
+            None
+        };
+        BlockQuote { is_needed, cents }
     }
 
     // The real-time price of an hour, if it is needed.
@@ -106,25 +109,19 @@ impl Book {
         &self,
         source: &S,
         hour: HourPlace,
-        prices: BlockPrices,
+        price: BlockQuote,
     ) -> Result<HourQuotes, Refusal>
-        requires { AskedTo (state_of self.now) (S.tables source.now) hour.place prices }
+        requires { let state = state_of self.now in
+            price ≡ block_quote state (S.tables source.now) (block_at state (suc hour.place)) }
         ensures answer { told result ≡ needed_quotes_answer (state_of self.now) (S.tables source.now) (suc hour.place) }
-        ensures asked { IfOk result (λ quotes.
-            AskedTo (state_of self.now) (S.tables source.now) (suc hour.place) quotes.prices) }
         ensures real_time { let needed = needed_prices (state_of self.now) (S.tables source.now) in
             IfOk result (λ quotes. quotes.real_time ≡ needed.real_time (suc hour.place)) }
         ensures factor { let needed = needed_prices (state_of self.now) (S.tables source.now) in
             IfOk result (λ quotes. quotes.factor ≡ needed.factor (suc hour.place)) }
     {
-        let block = hour.block(self.day.kind);
-        let price = self.ask_day_ahead(source, hour, prices.of(block))?;
-        let real_time = self.ask_real_time(source, hour, price.is_needed())?;
+        require_quote(hour, price)?;
+        let real_time = self.ask_real_time(source, hour, price.is_needed)?;
         let factor = self.ask_factor(source, hour, self.held_at(hour) > 0)?;
-        Ok(HourQuotes {
-            prices: prices.with(block, price),
-            real_time,
-            factor,
-        })
+        Ok(HourQuotes { real_time, factor })
     }
 }

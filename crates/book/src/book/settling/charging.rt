@@ -6,9 +6,9 @@ ghost use Rattle.tally.specs.DayPrices.{day_ahead_at};
 ghost use Rattle.tally.specs.Numbered.{positive_part};
 ghost use Rattle.tally.specs.States.{IsParty, hour_at};
 ghost use Rattle.book.specs.Books.{state_of};
-ghost use Rattle.book.specs.CutTables.{left_after, entry_in, HasCuts, SmallEntries};
+ghost use Rattle.book.specs.CutTables.{left_after, HasCuts, SmallCuts};
 ghost use Rattle.book.specs.PricedDays.{prices_in};
-ghost use Rattle.book.specs.Records.{at};
+ghost use Rattle.book.specs.Records.{at, in_row};
 
 use crate::book::Book;
 use crate::cut_table::CutTable;
@@ -92,8 +92,8 @@ impl Book {
     // A seller's charges of the day, each cut to what the ceiling still allows by hour, then buyer.
     pub(crate) fn cut_charges(&self, prices: &PricedDay, seller: PartyPlace) -> CutTable
         ensures cuts { HasCuts (state_of self.now) (prices_in prices.now) (suc seller.place) result.rows }
-        ensures others { (hour buyer : ℕ) → self.now.pool.parties < buyer → entry_in result.rows hour buyer ≡ 0 }
-        ensures small { SmallEntries result.rows }
+        ensures others { (hour buyer : ℕ) → self.now.pool.parties < buyer → in_row 0 result.rows hour buyer ≡ 0 }
+        ensures small { SmallCuts result.rows }
     {
         // Most sellers miss nothing in a day.
         if !self.is_failure_day(seller) {

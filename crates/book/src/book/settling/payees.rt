@@ -1,14 +1,14 @@
 // What of a seller's charges goes to the pool and to buyers, and what they come to.
 ghost use Rattle.std.specs.Prelude.{◌≡◌, ◌≤◌, ◌<◌, suc, ℕ, pos, if◌then◌else◌, unsigned_abs};
-ghost use Rattle.tally.specs.Charges.{pool_charge, buyer_charge};
+ghost use Rattle.tally.specs.Charges.{cut_charge};
 ghost use Rattle.tally.specs.DayPrices.{DayPrices, in_block};
 ghost use Rattle.tally.specs.Numbered.{total};
 ghost use Rattle.tally.specs.Settlement.{block_total};
 ghost use Rattle.tally.specs.States.{hour_at};
 ghost use Rattle.tally.specs.Years.{day_charges};
 ghost use Rattle.book.specs.Books.{state_of};
-ghost use Rattle.book.specs.CutTables.{entry_in, HasCuts, SmallEntries, payee_part};
-ghost use Rattle.book.specs.Records.{at};
+ghost use Rattle.book.specs.CutTables.{HasCuts, SmallCuts, payee_part};
+ghost use Rattle.book.specs.Records.{at, in_row};
 
 use crate::book::Book;
 use crate::cut_table::CutTable;
@@ -30,11 +30,11 @@ impl Book {
         hour: HourPlace,
         buyer: PartyPlace,
     ) -> u64
-        requires { SmallEntries cuts.now.rows }
+        requires { SmallCuts cuts.now.rows }
         ensures value { let state = state_of self.now in let number = suc hour.place in
             let covered = (hour_at state number).cover (suc seller.place) (suc buyer.place) in
             pos result ≡ (if in_block state block number
-            then pos (payee_part cover covered (entry_in cuts.now.rows number (suc buyer.place)))
+            then pos (payee_part cover covered (in_row 0 cuts.now.rows number (suc buyer.place)))
             else pos 0) }
         ensures size { result ≤ 500000000000 }
     {
@@ -45,8 +45,8 @@ impl Book {
         }
     }
 
-    // What goes in a block to the payee of misses that are so covered.
-    fn of_payee(
+    // What a seller pays for a buyer in a block to the payee of misses that are so covered, by a table of its charges.
+    pub(crate) fn to_payee(
         &self,
         cuts: &CutTable,
         block: Block,
@@ -54,11 +54,13 @@ impl Book {
         seller: PartyPlace,
         buyer: PartyPlace,
     ) -> i64
-        requires { SmallEntries cuts.now.rows }
-        ensures value { let state = state_of self.now in let number = suc buyer.place in
-            result ≡ block_total state block (λ hour. pos
-            (payee_part cover ((hour_at state hour).cover (suc seller.place) number)
-            (entry_in cuts.now.rows hour number))) }
+        requires small { SmallCuts cuts.now.rows }
+        requires party { buyer.place < self.now.pool.parties }
+        ensures value { let state = state_of self.now in
+            (prices : DayPrices) → HasCuts state prices (suc seller.place) cuts.now.rows
+            → result ≡ block_total state block (λ hour. pos
+            (payee_part cover ((hour_at state hour).cover (suc seller.place) (suc buyer.place))
+            (cut_charge state prices (suc seller.place) hour (suc buyer.place)))) }
         ensures size { unsigned_abs result ≤ 12000000000000 }
     {
         if cuts.is_empty {
@@ -71,47 +73,9 @@ impl Book {
         all as i64
     }
 
-    // What a seller pays to the pool for a buyer in a block, by a table of its charges.
-    pub(crate) fn to_pool(
-        &self,
-        cuts: &CutTable,
-        block: Block,
-        seller: PartyPlace,
-        buyer: PartyPlace,
-    ) -> i64
-        requires small { SmallEntries cuts.now.rows }
-        requires party { buyer.place < self.now.pool.parties }
-        ensures value { let state = state_of self.now in
-            (prices : DayPrices) → HasCuts state prices (suc seller.place) cuts.now.rows
-            → result ≡ block_total state block (λ hour.
-            pos (pool_charge state prices (suc seller.place) hour (suc buyer.place))) }
-        ensures size { unsigned_abs result ≤ 12000000000000 }
-    {
-        self.of_payee(cuts, block, Cover::Covered, seller, buyer)
-    }
-
-    // What it pays to the buyer.
-    pub(crate) fn to_buyer(
-        &self,
-        cuts: &CutTable,
-        block: Block,
-        seller: PartyPlace,
-        buyer: PartyPlace,
-    ) -> i64
-        requires small { SmallEntries cuts.now.rows }
-        requires party { buyer.place < self.now.pool.parties }
-        ensures value { let state = state_of self.now in
-            (prices : DayPrices) → HasCuts state prices (suc seller.place) cuts.now.rows
-            → result ≡ block_total state block (λ hour.
-            pos (buyer_charge state prices (suc seller.place) hour (suc buyer.place))) }
-        ensures size { unsigned_abs result ≤ 12000000000000 }
-    {
-        self.of_payee(cuts, block, Cover::Uncovered, seller, buyer)
-    }
-
     // What a seller is charged in the day, by a table of its charges.
     pub(crate) fn day_charges(&self, cuts: &CutTable) -> u64
-        requires { SmallEntries cuts.now.rows }
+        requires { SmallCuts cuts.now.rows }
         ensures value { (prices : DayPrices) (seller : ℕ) → HasCuts (state_of self.now) prices seller cuts.now.rows
             → result ≡ day_charges (state_of self.now) prices seller }
         ensures size { result ≤ 144000000000000 }

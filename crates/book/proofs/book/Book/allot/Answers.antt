@@ -6,20 +6,20 @@ use Rattle.tally.specs.Hours.{with_holdings}
 use Rattle.book.specs.Records.{at}
 use Rattle.book.proofs.AllotCalls.{unfit_allot, refused_allot, allotted_small, allot_call}
 use Rattle.book.proofs.Facts.{sound_of}
-use Rattle.book.proofs.HourCalls.{HourCall, hour_led, hour_goes}
+use Rattle.book.proofs.HourCalls.{HourCall, hour_led, hour_stepped}
 use Rattle.book.proofs.book.Book.allot.Given.{Over}
 use Rattle.book.proofs.book.Book.allot.Goals as goal
 
-pub returns-in_err-hour-clause-goes : goal.returns-in_err-hour-clause-goes
-returns-in_err-hour-clause-goes g c =
+pub returns-in_err-hour-clause-stepped : goal.returns-in_err-hour-clause-stepped
+returns-in_err-hour-clause-stepped g c =
     let p = err_from_is_err_and c.from_residual.result c.from_residual.ensures.1 in
     let lawful = g.met.R.DivisionRule.lawful c.args.rule.now in
     rw (p.1, p.2)
     (unfit_allot c.args.self.now c.args.hour _ _ lawful c.in_err-hour.field-0.0
     (simp (to_z-of_z, c.ranges.hour) at c.in_err-hour.ensures.answer))
 
-pub returns-in_err-holdings-clause-goes : goal.returns-in_err-holdings-clause-goes
-returns-in_err-holdings-clause-goes g c =
+pub returns-in_err-holdings-clause-stepped : goal.returns-in_err-holdings-clause-stepped
+returns-in_err-holdings-clause-stepped g c =
     let p = err_from_is_err_and c.from_residual-in_err-holdings.result c.from_residual-in_err-holdings.ensures.1 in
     let lawful = g.met.R.DivisionRule.lawful c.args.rule.now in
     rw (p.1, p.2)
@@ -49,5 +49,5 @@ call g c =
 pub invariant_of-self : goal.invariant_of-self
 invariant_of-self g c = record { led = hour_led _ _ _ _ _ _ _ _ (call g c) c.args.self.now.balances c.args.self.now.led }
 
-pub returns-clause-goes : goal.returns-clause-goes
-returns-clause-goes g c = hour_goes c.args.self.now c.hold.new.self _ _ _ _ (call g c.before) _
+pub returns-clause-stepped : goal.returns-clause-stepped
+returns-clause-stepped g c = hour_stepped c.args.self.now c.hold.new.self _ _ _ _ (call g c.before) _

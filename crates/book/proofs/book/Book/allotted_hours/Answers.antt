@@ -4,7 +4,8 @@ use Rattle.tally.specs.States.{hour_at}
 use Rattle.book.specs.Books.{state_of}
 use Rattle.book.proofs.HourLists.{known_first, known_more, left_out, none_listed, written}
 use Rattle.book.proofs.book.Book.allotted_hours.Goals as goal
-use Rattle.book.proofs.book.Book.allotted_hours.Goals.{then-in_block+then-is_allotted, else-in_block, else-in_block-via-then-in_block+else-is_allotted, else-in_block-via-else-in_block}
+use Rattle.book.proofs.book.Book.allotted_hours.Goals.{then-in_block+then-is_allotted, else-in_block}
+use Rattle.book.proofs.book.Book.allotted_hours.Goals.{else-in_block-via-then-in_block+else-is_allotted, else-in_block-via-else-in_block}
 
 pub loop-place-init : goal.loop-place-init
 loop-place-init c = record {

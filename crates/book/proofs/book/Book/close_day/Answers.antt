@@ -45,7 +45,8 @@ invariant_of-self g c =
     let posted = subst (λ (n : ℕ). (account : ℕ) → account ≤ n → get_or c.post.new.balances account (pos 0)
     ≡ get_or book.balances account (pos 0) +ℤ net n (statement_in settled.heavy settled.light) account)
     c.parties-parties.ensures.value c.post.ensures.posted in
-    let others = subst (λ (n : ℕ). (account : ℕ) → n < account → get_or c.post.new.balances account (pos 0) ≡ get_or book.balances account (pos 0))
+    let others = subst (λ (n : ℕ). (account : ℕ) → n < account
+    → get_or c.post.new.balances account (pos 0) ≡ get_or book.balances account (pos 0))
     c.parties-parties.ensures.value c.post.ensures.others in
     record {
       led = closed_led tables g.R.DivisionRule.LIMIT g.R.DivisionRule.moves book _ _
@@ -64,7 +65,8 @@ returns-clause-did g c =
     let posted = subst (λ (n : ℕ). (account : ℕ) → account ≤ n → get_or c.post.new.balances account (pos 0)
     ≡ get_or book.balances account (pos 0) +ℤ net n (statement_in settled.heavy settled.light) account)
     c.parties-parties.ensures.value c.post.ensures.posted in
-    let others = subst (λ (n : ℕ). (account : ℕ) → n < account → get_or c.post.new.balances account (pos 0) ≡ get_or book.balances account (pos 0))
+    let others = subst (λ (n : ℕ). (account : ℕ) → n < account
+    → get_or c.post.new.balances account (pos 0) ≡ get_or book.balances account (pos 0))
     c.parties-parties.ensures.value c.post.ensures.others in
     closed_did tables g.R.DivisionRule.LIMIT g.R.DivisionRule.moves book _ _
     settled.heavy settled.light settled.charges by (g.met.S.PriceSource.limited c.args.source.now)

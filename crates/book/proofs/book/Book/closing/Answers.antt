@@ -25,7 +25,8 @@ returns-in_err-shares-clause-answer g c =
 
 pub settle-requires-clause-shares : goal.settle-requires-clause-shares
 settle-requires-clause-shares g c =
-    shares_small c.args.self.now c.in_ok-prices.prices g.R.DivisionRule.LIMIT g.R.DivisionRule.moves _ _ c.in_ok-shares.shares.heavy c.in_ok-shares.shares.light
+    shares_small c.args.self.now c.in_ok-prices.prices g.R.DivisionRule.LIMIT g.R.DivisionRule.moves _ _ c.in_ok-shares.shares.heavy
+    c.in_ok-shares.shares.light
     (sym c.in_ok-shares.ensures.answer) c.in_ok-shares.ensures.shared
 
 pub returns-clause-answer : goal.returns-clause-answer
@@ -49,11 +50,13 @@ returns-clause-settled g c =
     let meanings = shared.meanings in
     let given = c.in_ok-shares.shares in
     let limited = g.met.S.PriceSource.limited c.args.source.now in
-    let absent = subst (λ (p : DayPrices). (block : Block) (seller buyer : ℕ) → 0 < seller → (state.set_up.parties < seller) ⊎ (state.set_up.parties < buyer)
+    let absent = subst (λ (p : DayPrices). (block : Block) (seller buyer : ℕ) → 0 < seller
+    → (state.set_up.parties < seller) ⊎ (state.set_up.parties < buyer)
     → statement_of state p meanings block seller buyer ≡ no_payment) (sym needed)
     (absent_of book tables most meanings (length c.args.statement.now.heavy.now) (length c.args.statement.now.light.now)
     (limited, shared.lawful) (sym (returns-clause-answer g c))) in
-    settled_by tables most g.R.DivisionRule.moves state prices _ _ given.heavy given.light c.settle.result.heavy c.settle.result.light c.settle.result.charges
+    settled_by tables most g.R.DivisionRule.moves state prices _ _ given.heavy given.light c.settle.result.heavy c.settle.result.light
+    c.settle.result.charges
     needed shared
     (tables_same state prices meanings (shares_in given.heavy given.light) shared.shares absent
     c.settle.result.heavy c.settle.result.light c.settle.ensures.heavy c.settle.ensures.light)

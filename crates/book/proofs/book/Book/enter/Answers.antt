@@ -1,5 +1,5 @@
 use Rattle.std.proofs.Common.{w64, SFits, refl, rules, to_z-of_z}
-use Rattle.book.proofs.Entering.{enters_whole, enters_once}
+use Rattle.book.proofs.Entering.{entry_stands, enters_once}
 use Rattle.book.proofs.book.Book.enter.Goals as goal
 
 pub returns-in-Open-clause-enters : goal.returns-in-Open-clause-enters
@@ -41,7 +41,7 @@ pub returns-in-Allot-clause-enters : goal.returns-in-Allot-clause-enters
 returns-in-Allot-clause-enters g c =
     let hour : SFits w64 c.in-Allot.hour = search rules in
     rw c.in-Allot.is
-    (enters_once _ _ _ _ _ _ _ _ _ _ _ (simp (to_z-of_z, hour) at c.allot.ensures.goes) tt
+    (enters_once _ _ _ _ _ _ _ _ _ _ _ (simp (to_z-of_z, hour) at c.allot.ensures.stepped) tt
     (simp (to_z-of_z, hour) at c.allot.ensures.moved) refl refl)
 
 pub returns-in-Deploy-clause-enters : goal.returns-in-Deploy-clause-enters
@@ -50,7 +50,7 @@ returns-in-Deploy-clause-enters g c =
     let buyer : SFits w64 c.in-Deploy.buyer = search rules in
     let mw : SFits w64 c.in-Deploy.mw = search rules in
     rw c.in-Deploy.is
-    (enters_once _ _ _ _ _ _ _ _ _ _ _ (simp (to_z-of_z, hour, buyer, mw) at c.deploy.ensures.goes) tt
+    (enters_once _ _ _ _ _ _ _ _ _ _ _ (simp (to_z-of_z, hour, buyer, mw) at c.deploy.ensures.stepped) tt
     (simp (to_z-of_z, hour, buyer, mw) at c.deploy.ensures.moved) refl refl)
 
 pub returns-in-Miss-clause-enters : goal.returns-in-Miss-clause-enters
@@ -76,4 +76,4 @@ returns-in-Year-clause-enters g c =
     refl refl refl)
 
 pub returns-in-Close-clause-enters : goal.returns-in-Close-clause-enters
-returns-in-Close-clause-enters g c = rw c.in-Close.is (enters_whole c.close_day.ensures.did)
+returns-in-Close-clause-enters g c = rw c.in-Close.is (entry_stands c.close_day.ensures.did)

@@ -6,7 +6,7 @@ use Rattle.book.specs.Books.{state_of}
 use Rattle.book.specs.HourEntries.{entered_by}
 use Rattle.book.specs.declared.hours.HourEntry.TheVariants.{Miss}
 use Rattle.book.proofs.EntryCalls.{miss_call, unnamed, unfit, unfit_late}
-use Rattle.book.proofs.HourCalls.{HourCall, hour_led, hour_goes}
+use Rattle.book.proofs.HourCalls.{HourCall, hour_led, hour_stepped}
 use Rattle.book.proofs.book.Book.enter_miss.Goals as goal
 
 pub returns-in_err-hour : goal.returns-in_err-hour
@@ -40,11 +40,13 @@ returns-in_err-mwh c =
     (simp (to_z-of_z, c.ranges.buyer) at c.in_ok-buyer.ensures.answer)
     (simp (to_z-of_z, c.ranges.mwh) at c.in_err-mwh.ensures.answer)
 
-call : (c : goal.After-enter) → HourCall c.args.self.now.pool c.args.self.now.day c.enter.new.self c.args.self.now.year (suc c.in_ok-hour.hour.place)
+call : (c : goal.After-enter) → HourCall c.args.self.now.pool c.args.self.now.day c.enter.new.self c.args.self.now.year
+    (suc c.in_ok-hour.hour.place)
     (entered_by (Miss c.in_ok-hour.seller c.in_ok-buyer.buyer c.in_ok-mwh.mwh c.args.cover))
     (enter_miss c.args.hour c.args.seller c.args.buyer c.args.mwh c.args.cover) (told c.enter.result)
 call c =
-    miss_call c.args.self.now c.enter.new.self (told c.enter.result) c.args.hour c.args.seller c.args.mwh c.in_ok-hour.hour c.in_ok-hour.seller c.in_ok-mwh.mwh
+    miss_call c.args.self.now c.enter.new.self (told c.enter.result) c.args.hour c.args.seller c.args.mwh c.in_ok-hour.hour
+    c.in_ok-hour.seller c.in_ok-mwh.mwh
     (simp (to_z-of_z, c.ranges.hour, c.ranges.seller) at c.in_ok-hour.ensures.answer)
     (simp (to_z-of_z, c.ranges.hour) at c.in_ok-hour.ensures.hour) (simp (to_z-of_z, c.ranges.seller) at c.in_ok-hour.ensures.party)
     c.args.buyer c.in_ok-buyer.buyer c.args.cover
@@ -56,4 +58,4 @@ pub invariant_of-self : goal.invariant_of-self
 invariant_of-self c = record { led = hour_led _ _ _ _ _ _ _ _ (call c) c.args.self.now.balances c.args.self.now.led }
 
 pub returns : goal.returns
-returns c = hour_goes c.args.self.now c.enter.new.self _ _ _ _ (call c.before) _
+returns c = hour_stepped c.args.self.now c.enter.new.self _ _ _ _ (call c.before) _

@@ -13,6 +13,7 @@ returns-clause-pairs c =
     let Has : ℕ → Type 0 = λ h. HasPairs (pairs_at book h) c.fill.new.self.entries.now in
     on_ok_weaker c.fill.result
     (λ page. subst Has named (pairs_on (pairs_at book hour) c.turned.result c.fill.new.self.entries.now
-    (λ seller buyer l m. c.turned.ensures seller buyer l m ∙ ap (λ (pairs : ℕ → ℕ → ℕ). pairs (suc seller) (suc buyer)) c.hour_record.ensures.pairs)
+    (λ seller buyer l m. c.turned.ensures seller buyer l m
+    ∙ ap (λ (pairs : ℕ → ℕ → ℕ). pairs (suc seller) (suc buyer)) c.hour_record.ensures.pairs)
     (page 0)))
     c.fill.ensures.value

@@ -12,7 +12,8 @@ use Rattle.book.proofs.book.Book.holdings.Goals as goal
 pub returns-then-total-eq0-clause-value : goal.returns-then-total-eq0-clause-value
 returns-then-total-eq0-clause-value g c =
     let book = c.args.self.now in
-    held_none book.pool.parties (hour_at (state_of book) (suc c.args.hour.place)) (g.R.DivisionRule.meaning c.args.rule.now) _ (at_same 12 0)
+    held_none book.pool.parties (hour_at (state_of book) (suc c.args.hour.place)) (g.R.DivisionRule.meaning c.args.rule.now) _
+    (at_same 12 0)
     (sym c.if-total-eq0.true ∙ c.in_ok-total.ensures.total)
 
 pub sums-requires : goal.sums-requires

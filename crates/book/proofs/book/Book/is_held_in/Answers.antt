@@ -21,8 +21,10 @@ loop-place-preserved c =
     (elim c.else-in_block.branch [
       | else-in_block-via-then-in_block+else-held_at-gt0 w ↦
           let none : w.held_at.result ≡ 0 = omega arith in
-          ap (λ b. cond b (held_at state (suc c.loop-place.place)) 0) (sym c.in_block.ensures ∙ w.if-in_block.true) ∙ sym w.held_at.ensures.value ∙ none
-      | else-in_block-via-else-in_block w ↦ ap (λ b. cond b (held_at state (suc c.loop-place.place)) 0) (sym c.in_block.ensures ∙ w.if-in_block.false)
+          ap (λ b. cond b (held_at state (suc c.loop-place.place)) 0) (sym c.in_block.ensures ∙ w.if-in_block.true)
+          ∙ sym w.held_at.ensures.value ∙ none
+      | else-in_block-via-else-in_block w ↦ ap (λ b. cond b (held_at state (suc c.loop-place.place)) 0)
+          (sym c.in_block.ensures ∙ w.if-in_block.false)
     ])
 
 pub returns : goal.returns

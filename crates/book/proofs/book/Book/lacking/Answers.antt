@@ -12,7 +12,8 @@ pub returns-in_err-amounts-clause-answer : goal.returns-in_err-amounts-clause-an
 returns-in_err-amounts-clause-answer c =
     let test = sharing_answer (state_of c.args.self.now) (prices_in c.args.prices.now) c.args.most c.args.hours.now.block in
     let e : told c.from_residual.result ≡ refused c.in_err-amounts.field-0.0 = search rules in
-    e ∙ first_refused test c.loop-place.place c.in_err-amounts.field-0.0 c.loop-place.invariant.passed c.in_err-amounts.ensures.answer c.args.self.now.pool.parties (omega arith)
+    e ∙ first_refused test c.loop-place.place c.in_err-amounts.field-0.0 c.loop-place.invariant.passed c.in_err-amounts.ensures.answer
+    c.args.self.now.pool.parties (omega arith)
 
 pub loop-place-preserved : goal.loop-place-preserved
 loop-place-preserved c =

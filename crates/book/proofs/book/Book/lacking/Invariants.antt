@@ -10,5 +10,6 @@ abbrev pub invariant-loop-place : goal.invariant-loop-place
 invariant-loop-place l = record {
   places : length l.amounts ≡ 12;
   passed : in_order (sharing_answer (state_of l.self) (prices_in l.prices) l.most l.hours.block) l.place ≡ granted;
-  amounts : (seller : ℕ) → seller < l.place → get_or l.amounts seller 0 ≡ make_whole (state_of l.self) (prices_in l.prices) l.hours.block (suc seller);
+  amounts : (seller : ℕ) → seller < l.place → get_or l.amounts seller 0
+      ≡ make_whole (state_of l.self) (prices_in l.prices) l.hours.block (suc seller);
 }

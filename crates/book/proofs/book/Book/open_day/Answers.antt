@@ -13,7 +13,7 @@ use Rattle.book.specs.Books.{state_of}
 use Rattle.book.specs.Records.{hours_of, state_in, year_in}
 use Rattle.book.specs.declared.book.Book.{Book}
 use Rattle.book.specs.declared.records.DayRecord.{DayRecord}
-use Rattle.book.proofs.DayCalls.{day_led, day_goes}
+use Rattle.book.proofs.DayCalls.{day_led, day_stepped}
 use Rattle.book.proofs.Testing.{granted_then}
 use Rattle.book.proofs.book.Book.open_day.Goals as goal
 
@@ -41,11 +41,13 @@ invariant_of-self c =
     record {
       led = day_led b new.result _ (open_day c.args.day c.args.kind c.args.month)
           (granted_open b c.args.day c.args.kind c.args.month c.in_ok-require_shut.ensures
-          (simp (to_z-of_z, c.ranges.day) at c.in_ok-number.ensures.answer) (simp (to_z-of_z, c.ranges.month) at c.in_ok-month.ensures.answer))
+          (simp (to_z-of_z, c.ranges.day) at c.in_ok-number.ensures.answer)
+          (simp (to_z-of_z, c.ranges.month) at c.in_ok-month.ensures.answer))
           tt
           (day_opened b new.result c.args.day c.args.kind c.args.month c.in_ok-number.number c.in_ok-month.month
           new.ensures.number new.ensures.is_open new.ensures.kind new.ensures.hours
-          (simp (to_z-of_z, c.ranges.day) at c.in_ok-number.ensures.value) (simp (to_z-of_z, c.ranges.month) at c.in_ok-month.ensures.value))
+          (simp (to_z-of_z, c.ranges.day) at c.in_ok-number.ensures.value)
+          (simp (to_z-of_z, c.ranges.month) at c.in_ok-month.ensures.value))
           refl (λ laid. new.ensures.laid);
     }
 
@@ -53,7 +55,7 @@ pub returns : goal.returns
 returns c =
     let b = c.args.self.now in
     let new = c.opened-self in
-    day_goes b new.result _ (open_day c.args.day c.args.kind c.args.month)
+    day_stepped b new.result _ (open_day c.args.day c.args.kind c.args.month)
     (granted_open b c.args.day c.args.kind c.args.month c.in_ok-require_shut.ensures
     (simp (to_z-of_z, c.ranges.day) at c.in_ok-number.ensures.answer) (simp (to_z-of_z, c.ranges.month) at c.in_ok-month.ensures.answer))
     tt

@@ -5,11 +5,11 @@ use Rattle.book.specs.Records.{is_allotted}
 use Rattle.book.proofs.HourFigures.{small_pair, unallotted_pair}
 use Rattle.book.proofs.book.Book.pair.Goals as goal
 
-pub returns-in-Entered-clause-value : goal.returns-in-Entered-clause-value
-returns-in-Entered-clause-value c =
+pub returns-in-Unallotted-clause-value : goal.returns-in-Unallotted-clause-value
+returns-in-Unallotted-clause-value c =
     let a = c.args in
     sym (unallotted_pair a.self.now (suc a.hour.place) (suc a.seller.place) (suc a.buyer.place)
-    (sym (ap (λ (h : Hour). h.allotted) c.hour_record-record.ensures.value) ∙ ap is_allotted c.in-Entered.is))
+    (sym (ap (λ (h : Hour). h.allotted) c.hour_record-record.ensures.value) ∙ ap is_allotted c.in-Unallotted.is))
 
 pub returns-in-Allotted-clause-size : goal.returns-in-Allotted-clause-size
 returns-in-Allotted-clause-size c =

@@ -8,10 +8,10 @@ returns c =
     let holdback : to_z w64 (of_z w64 c.holdback.result) ≡ c.holdback.result = search rules in
     let energy : to_z w64 (of_z w64 c.energy.result) ≡ c.energy.result = search rules in
     let share : to_z w64 c.args.share ≡ pos c.args.share = search rules in
-    let to_pool : to_z w64 (of_z w64 c.to_pool.result) ≡ c.to_pool.result = search rules in
-    let to_buyer : to_z w64 (of_z w64 c.to_buyer.result) ≡ c.to_buyer.result = search rules in
-    let pool = to_pool ∙ c.to_pool.ensures.value prices c.requires.cuts in
-    let buyer = to_buyer ∙ c.to_buyer.ensures.value prices c.requires.cuts in
+    let to_pool : to_z w64 (of_z w64 c.to_payee.result) ≡ c.to_payee.result = search rules in
+    let to_buyer : to_z w64 (of_z w64 c.to_payee-2.result) ≡ c.to_payee-2.result = search rules in
+    let pool = to_pool ∙ c.to_payee.ensures.value prices c.requires.cuts in
+    let buyer = to_buyer ∙ c.to_payee-2.ensures.value prices c.requires.cuts in
     λ i. record {
       holdback = (holdback ∙ c.holdback.ensures.value) i;
       energy = (energy ∙ c.energy.ensures.value) i;

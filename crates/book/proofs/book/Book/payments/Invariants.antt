@@ -4,7 +4,7 @@ use Rattle.book.specs.Books.{state_of}
 use Rattle.book.specs.Pages.{nothing}
 use Rattle.book.specs.Payments.{payment_of}
 use Rattle.book.specs.PricedDays.{prices_in}
-use Rattle.book.specs.Settled.{paid}
+use Rattle.book.specs.PaidTables.{paid}
 use Rattle.std.proofs.Common.{suc, ◌≤◌}
 use Rattle.book.proofs.book.Book.payments.Given as goal
 

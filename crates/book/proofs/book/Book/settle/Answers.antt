@@ -44,6 +44,7 @@ loop-place-preserved c =
       charges =
           row_next 0 old.settled.charges old.place c.day_charges.result
           (λ seller x. x ≡ day_charges (state_of c.args.self.now) (prices_in c.args.prices.now) seller) l day old.invariant.charges;
-      small = row_all 0 old.settled.charges old.place c.day_charges.result (λ x. x ≤ 144000000000000) l c.day_charges.ensures.size old.invariant.small;
+      small = row_all 0 old.settled.charges old.place c.day_charges.result (λ x. x ≤ 144000000000000) l c.day_charges.ensures.size
+          old.invariant.small;
       long = length-set old.settled.charges old.place c.day_charges.result ∙ old.invariant.long;
     }

@@ -12,7 +12,8 @@ abbrev pub invariant-loop-place : goal.invariant-loop-place
 invariant-loop-place l = record {
   heavy : Rows (state_of l.self) (prices_in l.prices) Heavy (shares_in l.shares.heavy l.shares.light Heavy) l.place l.settled.heavy;
   light : Rows (state_of l.self) (prices_in l.prices) Light (shares_in l.shares.heavy l.shares.light Light) l.place l.settled.light;
-  charges : (seller : ℕ) → 0 < seller → seller ≤ l.place → at 0 l.settled.charges seller ≡ day_charges (state_of l.self) (prices_in l.prices) seller;
+  charges : (seller : ℕ) → 0 < seller → seller ≤ l.place
+      → at 0 l.settled.charges seller ≡ day_charges (state_of l.self) (prices_in l.prices) seller;
   small : (seller : ℕ) → at 0 l.settled.charges seller ≤ 144000000000000;
   long : length l.settled.charges ≡ 12;
 }

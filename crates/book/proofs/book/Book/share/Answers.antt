@@ -16,6 +16,8 @@ loop-place-preserved g c =
     let l : c.loop-place.place < length c.loop-place.rows = omega arith in
     record {
       places = length-set _ _ _ ∙ n;
-      divided = divisions_more _ _ _ (λ seller. make_whole_claims (state_of c.args.self.now) c.args.hours.now.block (suc seller)) _ _ c.loop-place.place c.loop-place.rows _ _ c.share_of.result c.loop-place.invariant.divided l
+      divided =
+          divisions_more _ _ _ (λ seller. make_whole_claims (state_of c.args.self.now) c.args.hours.now.block (suc seller)) _ _
+          c.loop-place.place c.loop-place.rows _ _ c.share_of.result c.loop-place.invariant.divided l
           (g.met.R.DivisionRule.lawful c.share_of.new.rule) c.share_of.ensures.turned c.share_of.ensures.shares;
     }

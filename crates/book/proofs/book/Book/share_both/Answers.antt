@@ -40,7 +40,9 @@ pub returns-clause-shared : goal.returns-clause-shared
 returns-clause-shared g c =
     let heavy_is = c.allotted_hours-heavy_hours.ensures.block in
     let light_is = c.allotted_hours-light_hours.ensures.block in
-    shared g.R.DivisionRule.LIMIT _ (state_of c.args.self.now) (prices_in c.args.prices.now) _ (g.R.DivisionRule.meaning c.share-heavy.new.rule) _
-    c.share-heavy.result c.share-light.result (λ seller. get_or c.in_ok-heavy.heavy seller 0) (λ seller. get_or c.in_ok-light.light seller 0)
+    shared g.R.DivisionRule.LIMIT _ (state_of c.args.self.now) (prices_in c.args.prices.now) _
+    (g.R.DivisionRule.meaning c.share-heavy.new.rule) _
+    c.share-heavy.result c.share-light.result (λ seller. get_or c.in_ok-heavy.heavy seller 0)
+    (λ seller. get_or c.in_ok-light.light seller 0)
     (rw heavy_is at c.in_ok-heavy.ensures.value) (rw light_is at c.in_ok-light.ensures.value)
     (rw heavy_is at c.share-heavy.ensures) (rw light_is at c.share-light.ensures)

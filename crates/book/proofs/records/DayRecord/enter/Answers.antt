@@ -13,5 +13,7 @@ returns-clause-changed c =
       hours = hours_entered c.args.self.now.hours c.args.hour.place _ _ _ (entered_by c.args.entry) l c.enter.ensures.hour;
       rest = refl;
       laid = λ laid. All-set Laid c.args.self.now.hours c.args.hour.place _ (c.enter.ensures.laid (laid c.args.hour.place _ l)) laid;
-      unchanged = λ denied. ap (λ hours. record (c.args.self.now) { hours = hours }) (ap (set c.args.self.now.hours c.args.hour.place) (c.enter.ensures.same denied) ∙ set-get_or c.args.self.now.hours c.args.hour.place _);
+      unchanged = λ denied. ap (λ hours. record (c.args.self.now) { hours = hours })
+          (ap (set c.args.self.now.hours c.args.hour.place) (c.enter.ensures.same denied)
+          ∙ set-get_or c.args.self.now.hours c.args.hour.place _);
     }

@@ -17,7 +17,8 @@ pub returns : goal.returns
 returns c =
     let l : c.args.hour.place < length c.args.self.now.hours = search rules in
     record {
-      hours = hours_entered c.args.self.now.hours c.args.hour.place _ _ granted (with_holdings (at 0 c.args.holdings)) l c.hold.ensures.hour;
+      hours = hours_entered c.args.self.now.hours c.args.hour.place _ _ granted (with_holdings (at 0 c.args.holdings)) l
+          c.hold.ensures.hour;
       rest = refl;
       laid = λ laid. All-set Laid c.args.self.now.hours c.args.hour.place _ c.hold.ensures.laid laid;
       unchanged = λ denied. absurd (denied refl);

@@ -14,7 +14,8 @@ pub returns : goal.returns
 returns c =
     let requests : length c.args.self.now.requests ≡ 12 = search rules in
     let offers : length c.args.self.now.offers ≡ 12 = search rules in
-    filled_all 0 c.loop-place.offers (counted_offer (hour_of c.args.self.now)) c.loop-place.place c.loop-place-test.false c.loop-place.invariant refl
+    filled_all 0 c.loop-place.offers (counted_offer (hour_of c.args.self.now)) c.loop-place.place c.loop-place-test.false
+    c.loop-place.invariant refl
     (λ k l.
     let no_request = get_or_past c.args.self.now.requests k 0 (omega arith) in
     let no_offer = get_or_past c.args.self.now.offers k 0 (omega arith) in

@@ -13,5 +13,6 @@ loop-place-preserved c =
 pub returns : goal.returns
 returns c =
     let results : length c.args.self.now.results ≡ 12 = search rules in
-    filled_all 0 c.loop-place.surpluses (surplus (hour_of c.args.self.now)) c.loop-place.place c.loop-place-test.false c.loop-place.invariant refl
+    filled_all 0 c.loop-place.surpluses (surplus (hour_of c.args.self.now)) c.loop-place.place c.loop-place-test.false
+    c.loop-place.invariant refl
     (λ k l. let none = get_or_past c.args.self.now.results k (pos 0) (omega arith) in rw none refl)

@@ -19,5 +19,6 @@ loop-payment-preserved c =
     (let below = taken_below c.args.row.now c.args.parties c.loop-payment.payment-index few c.loop-payment-test.true in omega arith)
     (omega arith) c.loop-payment.invariant
     (c.pool_gets-sum.ensures.value
-    ∙ ap (λ (p : Payment). p.to_pool) (taken_entry c.args.row.now c.args.parties c.loop-payment.payment-index _ few c.loop-payment-test.true))
+    ∙ ap (λ (p : Payment). p.to_pool) (taken_entry c.args.row.now c.args.parties c.loop-payment.payment-index _ few
+    c.loop-payment-test.true))
     c.pool_gets-sum.ensures.size

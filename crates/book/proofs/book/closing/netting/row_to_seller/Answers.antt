@@ -18,5 +18,6 @@ loop-payment-preserved c =
     summed_more _ _ c.loop-payment.payment-index _ c.seller_gets-sum.result
     (let below = taken_below c.args.row.now c.args.parties c.loop-payment.payment-index few c.loop-payment-test.true in omega arith)
     (omega arith) c.loop-payment.invariant
-    (c.seller_gets-sum.ensures.value ∙ ap seller_gets (taken_entry c.args.row.now c.args.parties c.loop-payment.payment-index _ few c.loop-payment-test.true))
+    (c.seller_gets-sum.ensures.value ∙ ap seller_gets
+    (taken_entry c.args.row.now c.args.parties c.loop-payment.payment-index _ few c.loop-payment-test.true))
     c.seller_gets-sum.ensures.size

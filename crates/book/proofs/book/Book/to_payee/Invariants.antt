@@ -3,14 +3,15 @@ use Rattle.tally.specs.DayPrices.{in_block}
 use Rattle.tally.specs.Numbered.{total_z}
 use Rattle.tally.specs.States.{hour_at}
 use Rattle.book.specs.Books.{state_of}
-use Rattle.book.specs.CutTables.{entry_in, payee_part}
-use Rattle.book.proofs.book.Book.of_payee.Given as goal
+use Rattle.book.specs.CutTables.{payee_part}
+use Rattle.book.specs.Records.{in_row}
+use Rattle.book.proofs.book.Book.to_payee.Given as goal
 
 abbrev pub invariant-loop-hour : goal.invariant-loop-hour
 invariant-loop-hour l = record {
   sum : pos l.all ≡ total_z (λ hour. cond (in_block (state_of l.self) l.block hour)
       (pos (payee_part l.cover ((hour_at (state_of l.self) hour).cover (suc l.seller.place) (suc l.buyer.place))
-      (entry_in l.cuts.rows hour (suc l.buyer.place))))
+      (in_row 0 l.cuts.rows hour (suc l.buyer.place))))
       (pos 0)) l.hour;
   small : l.all ≤ l.hour * 500000000000;
 }

@@ -1,25 +1,18 @@
 -- The payments of a day in tables, from shares of make-whole. Assumes nothing.
-use Rattle.std.specs.Prelude.{◌≡◌, ℕ, suc, ◌<◌, if◌then◌else◌, ◌&&◌, List, pos, nat_lt}
+use Rattle.std.specs.Prelude.{◌≡◌, ℕ, suc, ◌<◌, if◌then◌else◌, ◌&&◌, List, [], pos, nat_lt}
 use Rattle.tariff.specs.declared.blocks.Block.{Block}
 use Rattle.tally.specs.AccountLaws.{no_payment}
-use Rattle.tally.specs.Charges.{pool_charge, buyer_charge}
 use Rattle.tally.specs.DayPrices.{DayPrices}
-use Rattle.tally.specs.Settlement.{block_total, holdback, energy}
 use Rattle.tally.specs.States.{State}
-use Rattle.tally.specs.Statements.{Payment}
+use Rattle.tally.specs.Statements.{Payment, statement_of}
 use Rattle.book.specs.Payments.{payments_in}
-use Rattle.book.specs.declared.payment.Payment.{Payment as Entry}
+use Rattle.book.specs.declared.payment.Payment.{Payment as PageEntry}
 
 module _ (state : State) (prices : DayPrices) (block : Block) where
-  -- what passes between a seller and a buyer of whom the buyer pays that share of make-whole
+  -- what the statement has for a seller and a buyer, with that share of make-whole, whatever the rule means
   abbrev pub paid : (seller buyer share : ℕ) → Payment
-  paid seller buyer share = record {
-    holdback = holdback state prices block seller buyer;
-    energy = energy state prices block seller buyer;
-    make_whole = pos share;
-    to_pool = block_total state block (λ hour. pos (pool_charge state prices seller hour buyer));
-    to_buyer = block_total state block (λ hour. pos (buyer_charge state prices seller hour buyer));
-  }
+  paid seller buyer share =
+      record (statement_of state prices (λ turn total claims. []) block seller buyer) { make_whole = pos share }
 
   -- the same of a seller and a buyer by place, of whom one may be no party
   abbrev pub paid_at : (seller buyer share : ℕ) → Payment
@@ -28,7 +21,7 @@ module _ (state : State) (prices : DayPrices) (block : Block) where
       then paid (suc seller) (suc buyer) share else no_payment
 
   -- a table of all of these, with shares by seller and buyer
-  abbrev pub PaidIn : (shares : ℕ → ℕ → ℕ) → List (List Entry) → Type 0
+  abbrev pub PaidIn : (shares : ℕ → ℕ → ℕ) → List (List PageEntry) → Type 0
   PaidIn shares rows =
       (seller buyer : ℕ) → seller < 12 → buyer < 12
       → payments_in rows (suc seller) (suc buyer) ≡ paid_at seller buyer (shares (suc seller) (suc buyer))

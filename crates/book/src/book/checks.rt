@@ -81,7 +81,7 @@ impl Book {
             ≡ require (not (hour_at (state_of self.now) (suc hour.place)).allotted) (HourAllotted (suc hour.place)) }
     {
         match self.hour_record(hour).stage {
-            Stage::Entered => Ok(()),
+            Stage::Unallotted => Ok(()),
             Stage::Allotted => Err(Refusal::HourAllotted {
                 hour: hour.number(),
             }),
@@ -94,7 +94,7 @@ impl Book {
             ≡ require (hour_at (state_of self.now) (suc hour.place)).allotted (HourNotAllotted (suc hour.place)) }
     {
         match self.hour_record(hour).stage {
-            Stage::Entered => Err(Refusal::HourNotAllotted {
+            Stage::Unallotted => Err(Refusal::HourNotAllotted {
                 hour: hour.number(),
             }),
             Stage::Allotted => Ok(()),

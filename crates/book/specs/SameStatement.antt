@@ -4,7 +4,7 @@ use Rattle.tariff.specs.declared.blocks.Block.{Block}
 use Rattle.tally.specs.Statements.{Statement}
 
 -- the two pages say the same at each of their entries: for each seller and buyer of twelve
-abbrev pub SamePages : Statement → Statement → Type 0
-SamePages pages statement =
+abbrev pub SameStatement : Statement → Statement → Type 0
+SameStatement pages statement =
     (block : Block) (seller buyer : ℕ) → 0 < seller → seller ≤ 12 → 0 < buyer → buyer ≤ 12
     → pages block seller buyer ≡ statement block seller buyer

@@ -15,7 +15,9 @@ pub record Same (before after : Book) : Type 0 where
   pub year : after.year ≡ before.year
   pub balances : after.balances ≡ before.balances
 
-pub record Goes (before : Book) (event : Event) (answered : Answer) (after : Book) : Type 0 where
+-- A book took a step as the tally does: what the call answers, the state and the balances that it leaves. Where it is
+-- denied, it leaves every record as it was.
+pub record Stepped (before : Book) (event : Event) (answered : Answer) (after : Book) : Type 0 where
   pub lawful : Lawfully event
   pub answers : answered ≡ answer (state_of before) event
   pub state : state_of after ≡ step (state_of before) event
