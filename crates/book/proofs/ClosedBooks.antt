@@ -35,7 +35,7 @@ use Rattle.book.specs.declared.records.DayRecord.{DayRecord}
 use Rattle.book.specs.declared.records.YearRecord.{YearRecord}
 use Rattle.book.proofs.Alike.{net_same}
 use Rattle.book.proofs.Facts.{few_of, small_payment_of}
-use Rattle.book.proofs.HourCalls.{refused_stepped}
+use Rattle.book.proofs.Calls.{refused_stepped}
 use Rattle.book.proofs.Leading.{due_append, led_next}
 
 -- a close, with what answered it
@@ -63,8 +63,8 @@ close_refused tables most moves book first last heavy light a e limited lawful t
     (record {
       from = record { meanings = λ turn. first; starts = refl; moved = same; heavy_kept = refl; light_kept = refl };
       made = record {
-        stepped = refused_stepped book (close_day tables most (λ turn. first) (length heavy) (length light)) (refused e) e
-            (limited, λ turn. lawful) refl is;
+        stepped = refused_stepped book (close_day tables most (λ turn. first) (length heavy) (length light)) e
+            (limited, λ turn. lawful) is;
         filled = tt;
       };
     })

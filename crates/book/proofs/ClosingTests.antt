@@ -104,7 +104,7 @@ pub settled_by : (tables : Tables) (most : ℕ) (moves : Moves) (state : State) 
     → (shared : Shared most moves state prices first heavy_shares light_shares last)
     → SameStatement (statement_in heavy light) (statement_of state prices shared.meanings)
     → ((seller : ℕ) → IsParty state seller → at 0 charges seller ≡ day_charges state prices seller)
-    → ((seller : ℕ) → at 0 charges seller ≤ 144000000000000)
+    → ((seller : ℕ) → at 0 charges seller ≤ 1152000000000000)
     → SettledBy tables most moves state first heavy light charges last
 settled_by tables most moves state prices first last _ _ heavy light charges needed shared same charged small = record {
   meanings = shared.meanings;

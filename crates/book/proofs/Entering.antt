@@ -1,5 +1,5 @@
 -- Each call as an entry. Assumes nothing.
-use Rattle.std.proofs.Common.{ℕ, List, ◌∷◌, length, refl, sym}
+use Rattle.std.proofs.Common.{◌≡◌, ℕ, List, ◌∷◌, length, refl, sym, subst₂}
 use Rattle.tariff.specs.Answers.{Answer}
 use Rattle.tariff.specs.Division.{Division, Moves}
 use Rattle.tariff.specs.Tables.{Tables}
@@ -41,6 +41,15 @@ module _ {said : AnsweredEntry} {before : Book} {heavy light : PageChange} {left
     heavy_kept = did.from.heavy_kept;
     light_kept = did.from.light_kept;
   }
+
+-- pages that are made of slices have what the slices have, before a call and after it
+pub on_slices : {said : AnsweredEntry} {before left : Book} {heavy light heavy_left light_left heavy' light' heavy_left' light_left' : List Payment}
+    → EntryStands said before (record { old = heavy; new = heavy_left }) (record { old = light; new = light_left }) left
+    → heavy ≡ heavy' → light ≡ light' → heavy_left ≡ heavy_left' → light_left ≡ light_left'
+    → EntryStands said before (record { old = heavy'; new = heavy_left' }) (record { old = light'; new = light_left' }) left
+on_slices {said} {before} {left} {heavy} {light} {heavy_left} {light_left} {heavy'} {light'} stands h l h' l' =
+    subst₂ (λ x y. EntryStands said before (record { old = heavy'; new = x }) (record { old = light'; new = y }) left) h' l'
+    (subst₂ (λ x y. EntryStands said before (record { old = x; new = heavy_left }) (record { old = y; new = light_left }) left) h l stands)
 
 -- a call at which the rule has one meaning, that of when it was called, and no page is written
 module _ (tables : Tables) (most : ℕ) (moves : Moves) (entry : Entry) (before : Book) (first : Division) (heavy light : List Payment)

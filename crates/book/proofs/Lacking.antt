@@ -4,7 +4,7 @@ use Rattle.std.proofs.lemmas.Int.{ints, clamps}
 use Rattle.std.specs.Int.{int_max}
 use Rattle.tally.specs.Numbered.{positive_part}
 
-pub differences_kept : (r s k : ℤ) → nat_abs r ≤ 12000000000000 → nat_abs s ≤ 6336000000000 → nat_abs k ≤ 24000000000000
+pub differences_kept : (r s k : ℤ) → nat_abs r ≤ 96000000000000 → nat_abs s ≤ 2304000000000000 → nat_abs k ≤ 192000000000000
     → to_z w64 (of_z w64
     (to_z w64 (of_z w64 (to_z w64 (of_z w64 r) -ℤ to_z w64 (of_z w64 s))) -ℤ to_z w64 (of_z w64 k)))
     ≡ r -ℤ s -ℤ k

@@ -1,7 +1,8 @@
 pub mod Testing
 pub mod Placing
 pub mod Leading
-pub mod HourCalls
+pub mod Calls
+pub mod RuleCalls
 pub mod Facts
 pub mod HourFigures
 pub mod DayPriced
@@ -12,12 +13,9 @@ pub mod Dividing
 pub mod Filling
 pub mod Supplies
 pub mod Portions
-pub mod AllotCalls
-pub mod DeployCalls
+pub mod Deploying
 pub mod Stretches
-pub mod EntryCalls
 pub mod Blanks
-pub mod DayCalls
 pub mod Beginning
 pub mod Alike
 pub mod Tracing

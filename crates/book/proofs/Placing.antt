@@ -9,7 +9,6 @@ use Rattle.tally.specs.Numbered.{replaced}
 use Rattle.book.specs.Records.{at, by_seller, hour_of, hours_of}
 use Rattle.book.specs.declared.records.HourRecord.{HourRecord}
 use Rattle.tally.specs.Hours.{Hour, blank}
-use Rattle.tariff.specs.Answers.{Answer, granted, denied, if_granted}
 
 -- a figure written at a place takes the place of that number's
 pub at_set : {A : Type 0} (none : A) (list : List A) (p : ℕ) (x : A) → p < length list
@@ -26,26 +25,26 @@ at_set none list p x l = fun_ext by
 
 -- the same in a table with a row for each buyer, of which one is written
 pub by_seller_put : {A : Type 0} (none : A) (rows : List (List A)) (b s : ℕ) (row : List A) (x : A) → b < length rows
-    → at none row ≡ replaced (at none (get_or rows b [])) (suc s) x
-    → by_seller none (set rows b row) ≡ replaced (by_seller none rows) (suc s) (replaced (by_seller none rows (suc s)) (suc b) x)
+    → at none row ≡ replaced (at none (get_or rows b [])) s x
+    → by_seller none (set rows b row) ≡ replaced (by_seller none rows) s (replaced (by_seller none rows s) (suc b) x)
 by_seller_put {A} none rows b s row x l m = fun_ext (λ i. fun_ext (λ j.
     ap (λ (f : ℕ → List A). at none (f j) i) (at_set [] rows b row l) ∙ whole i j))
   where
-    by : (i j : ℕ) (c : Bool) → eqb j (suc b) ≡ c → (d : Bool) → eqb i (suc s) ≡ d
-        → at none (cond c row (at [] rows j)) i ≡ cond d (cond c x (at none (at [] rows j) (suc s))) (at none (at [] rows j) i)
+    by : (i j : ℕ) (c : Bool) → eqb j (suc b) ≡ c → (d : Bool) → eqb i s ≡ d
+        → at none (cond c row (at [] rows j)) i ≡ cond d (cond c x (at none (at [] rows j) s)) (at none (at [] rows j) i)
     by i j true e d f =
         ap (λ (g : ℕ → A). g i) m
         ∙ ap (λ v. cond v x (at none (at [] rows (suc b)) i)) f
         ∙ ap (λ k. cond d x (at none (at [] rows k) i)) (sym (eqb-true j (suc b) e))
-    by i j false e true f = ap (at none (at [] rows j)) (eqb-true i (suc s) f)
+    by i j false e true f = ap (at none (at [] rows j)) (eqb-true i s f)
     by i j false e false f = refl
 
     whole : (i j : ℕ) → at none (replaced (at [] rows) (suc b) row j) i
-        ≡ replaced (by_seller none rows) (suc s) (replaced (by_seller none rows (suc s)) (suc b) x) i j
-    whole i j = by i j (eqb j (suc b)) refl (eqb i (suc s)) refl ∙ spread (eqb i (suc s))
+        ≡ replaced (by_seller none rows) s (replaced (by_seller none rows s) (suc b) x) i j
+    whole i j = by i j (eqb j (suc b)) refl (eqb i s) refl ∙ spread (eqb i s)
       where
-        spread : (d : Bool) → cond d (cond (eqb j (suc b)) x (at none (at [] rows j) (suc s))) (at none (at [] rows j) i)
-            ≡ (cond d (replaced (by_seller none rows (suc s)) (suc b) x) (by_seller none rows i)) j
+        spread : (d : Bool) → cond d (cond (eqb j (suc b)) x (at none (at [] rows j) s)) (at none (at [] rows j) i)
+            ≡ (cond d (replaced (by_seller none rows s) (suc b) x) (by_seller none rows i)) j
         spread true = refl
         spread false = refl
 
@@ -69,18 +68,9 @@ hours_set records p new l =
     ap (at blank) (map-set hour_of records p new)
     ∙ at_set blank (map hour_of records) p (hour_of new) (let e = length-map records hour_of in omega arith)
 
--- an entry in one hour's record, as the hours by number have it
-pub hours_entered : (records : List HourRecord) (p : ℕ) (none new : HourRecord) (a : Answer) (change : Hour → Hour) → p < length records
-    → hour_of new ≡ if_granted a (change (hour_of (get_or records p none))) (hour_of (get_or records p none))
-    → hours_of (set records p new)
-    ≡ if_granted a (replaced (hours_of records) (suc p) (change (hours_of records (suc p)))) (hours_of records)
-hours_entered records p none new a change l e =
-    hours_set records p new l ∙ ap (replaced (hours_of records) (suc p)) (e ∙ ap both (hour_read records p none l)) ∙ by a
-  where
-    both : Hour → Hour
-    both old = if_granted a (change old) old
-
-    by : (b : Answer) → replaced (hours_of records) (suc p) (if_granted b (change (hours_of records (suc p))) (hours_of records (suc p)))
-        ≡ if_granted b (replaced (hours_of records) (suc p) (change (hours_of records (suc p)))) (hours_of records)
-    by granted = refl
-    by (denied n f s) = replaced_same (hours_of records) (suc p)
+-- a change of one hour's record, as the hours by number have it
+pub hour_entered : (records : List HourRecord) (p : ℕ) (none new : HourRecord) (change : Hour → Hour) → p < length records
+    → hour_of new ≡ change (hour_of (get_or records p none))
+    → hours_of (set records p new) ≡ replaced (hours_of records) (suc p) (change (hours_of records (suc p)))
+hour_entered records p none new change l e =
+    hours_set records p new l ∙ ap (replaced (hours_of records) (suc p)) (e ∙ ap change (hour_read records p none l))

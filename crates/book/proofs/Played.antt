@@ -2,6 +2,7 @@
 use Rattle.std.proofs.Common.{◌≡◌, ◌≢◌, ℕ, ◌+◌, ◌<◌, ◌≤◌, List, [], ◌∷◌, length, reverse, take, get_or, set, refl, sym, ◌∙◌, ap, subst₂}
 use Rattle.std.proofs.Common.{arith, get_or-set_other}
 use Rattle.std.proofs.lemmas.List.{reverse-append, take_all, take_more, take_more_set}
+use Rattle.tariff.specs.Answers.{told}
 use Rattle.tariff.specs.Division.{Division, Moves}
 use Rattle.tariff.specs.Tables.{Tables}
 use Rattle.tally.specs.States.{SetUp}
@@ -10,6 +11,7 @@ use Rattle.book.specs.EntryStands.{EntryStands}
 use Rattle.book.specs.Histories.{Made}
 use Rattle.book.specs.MadeFrom.{call_from}
 use Rattle.book.specs.Playing.{said_by, AllBrought, Played}
+use Rattle.book.specs.RuleMoves.{SameRule}
 use Rattle.book.specs.Runs.{Run, begun}
 use Rattle.book.specs.declared.book.Book.{Book}
 use Rattle.book.specs.declared.call.Call.{Call}
@@ -42,15 +44,16 @@ module _ {S R : Type 0} (tables : S → Tables) (most : ℕ) (moves : Moves) (me
 
     pub playing_more : EntryStands (said_by tables most moves meaning call new) book
         (record { old = call.heavy; new = new.heavy }) (record { old = call.light; new = new.light }) left
-        → new.entry ≡ call.entry → new.source ≡ call.source → Playing before (set now i new) (i + 1) left
-    playing_more stands entry source = record {
+        → new.entry ≡ call.entry → new.source ≡ call.source → SameRule call.entry (told new.told) call.rule new.rule
+        → Playing before (set now i new) (i + 1) left
+    playing_more stands entry source same_rule = record {
       start = p.start;
       history = call_from stands.did.from left ∷ p.history;
       brought =
           subst₂ (λ befores afters. AllBrought tables most moves meaning set_up befores afters (call_from stands.did.from left ∷ p.history))
           (sym (newest before i d l ∙ ap (λ c. c ∷ reverse (take i before)) (sym (p.rest i d (omega arith)))))
           (sym (newest_set now i new m))
-          (record { entry = entry; source = source; from = made_from stands.did p.run; made = refl }, p.brought);
+          (record { entry = entry; source = source; same_rule = same_rule; from = made_from stands.did p.run; made = refl }, p.brought);
       run = run_on stands.did p.run;
       rest = λ k e h. let ne : k ≢ i = omega arith in rw get_or-set_other (p.rest k e (omega arith));
     }

@@ -1,35 +1,29 @@
 -- The sizes of what an hour's requests are met from. Assumes nothing.
-use Rattle.std.proofs.Common.{◌≡◌, ℕ, ◌≤◌, Bool, true, false, cond, sym, ap, subst, arith}
-use Rattle.tally.specs.Allotment.{counted_offer, surplus, offers_suffice, held_whole}
+use Rattle.std.proofs.Common.{◌≡◌, ℕ, ◌≤◌, Bool, true, false, cond, ltb, ap, arith}
+use Rattle.tally.specs.Allotment.{offers_suffice, requested, held_whole}
 use Rattle.tally.specs.Hours.{Hour}
 use Rattle.tally.specs.States.{hour_at}
-use Rattle.tally.proofs.SoundHours.{SoundHour}
-use Rattle.tally.proofs.Sizes.{counted_size, surplus_size}
+use Rattle.tally.proofs.Numbering.{total_bound}
 use Rattle.book.specs.Books.{state_of}
+use Rattle.book.specs.HourEntries.{SmallHour}
 use Rattle.book.specs.declared.book.Book.{Book}
 use Rattle.book.proofs.Facts.{sound_of}
 
--- an hour of a book, however it is written
-module _ (book : Book) (number : ℕ) (hour : Hour) (is : hour ≡ hour_at (state_of book) number) where
-  pub sound_hour : SoundHour book.pool.parties hour
-  sound_hour = subst (SoundHour book.pool.parties) (sym is) ((sound_of book).hours number)
+-- the figures of an hour to which calls led
+pub small_of : (book : Book) (number : ℕ) → SmallHour (hour_at (state_of book) number)
+small_of book number party =
+    ((((sound_of book).hours number).offers party).0, (((sound_of book).hours number).requests party).0)
 
-  pub requests_small : (party : ℕ) → hour.requests party ≤ 5000
-  requests_small party = (sound_hour.requests party).0
+module _ (n : ℕ) (hour : Hour) (few : n ≤ 12) (small : SmallHour hour) where
+  pub requested_small : requested n hour ≤ 60000
+  requested_small = omega (arith, total_bound hour.requests 5000 n (λ party _ _. (small party).1))
 
-  pub offers_small : (offers : ℕ → ℕ) → offers ≡ counted_offer hour → (party : ℕ) → offers party ≤ 5000
-  offers_small offers e party = subst (λ (f : ℕ → ℕ). f party ≤ 5000) (sym e) (counted_size book.pool.parties hour sound_hour party)
-
-  pub surpluses_small : (surpluses : ℕ → ℕ) → surpluses ≡ surplus hour → (party : ℕ) → surpluses party ≤ 5000
-  surpluses_small surpluses e party = subst (λ (f : ℕ → ℕ). f party ≤ 5000) (sym e) (surplus_size book.pool.parties hour sound_hour party)
-
-  -- what is held whole, and a share of what is divided
-  pub whole_small : (whole : ℕ → ℕ) → whole ≡ held_whole book.pool.parties hour → (party : ℕ) → whole party ≤ 5000
+  -- what is held whole
+  pub whole_small : (whole : ℕ → ℕ) → whole ≡ held_whole n hour → (party : ℕ) → whole party ≤ 5000
   whole_small whole e party =
-      let counted = counted_size book.pool.parties hour sound_hour party in
-      let small = by (offers_suffice book.pool.parties hour) (counted_offer hour party) counted in
-      omega (arith, ap (λ (f : ℕ → ℕ). f party) e)
+      let held = within (offers_suffice n hour) (within (ltb 0 (hour.requests party)) (small party).0) in
+      omega (arith, held, ap (λ (f : ℕ → ℕ). f party) e)
     where
-      by : (b : Bool) (x : ℕ) → x ≤ 5000 → cond b 0 x ≤ 5000
-      by true x l = omega arith
-      by false x l = l
+      within : (b : Bool) {x : ℕ} → x ≤ 5000 → cond b 0 x ≤ 5000
+      within true l = omega arith
+      within false l = l

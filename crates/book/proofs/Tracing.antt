@@ -18,7 +18,7 @@ use Rattle.book.specs.Begun.{Begun}
 use Rattle.book.specs.Books.{state_of, balance, pairs_at}
 use Rattle.book.specs.Histories.{Made, tally_of, stated_by, statements_of, statements_of_year}
 use Rattle.book.specs.Led.{Laid}
-use Rattle.book.specs.Records.{by_seller, hour_of}
+use Rattle.book.specs.Records.{by_seller, hour_of, held_of}
 use Rattle.book.specs.Runs.{FilledBy, CallMade, Run, begun, called}
 use Rattle.book.specs.declared.book.Book.{Book}
 use Rattle.book.specs.declared.records.HourRecord.{HourRecord}
@@ -126,7 +126,7 @@ run_traced {set_up} (called history book call before step) = traced_next set_up 
 
 laid_at : (records : List HourRecord) → All Laid records → (place : ℕ) → (get_or (map hour_of records) place blank).allotted ≡ true
     → (seller buyer : ℕ)
-    → by_seller 0 (get_or (map (λ record_. record_.pairs) records) place []) seller buyer
+    → by_seller 0 (get_or (map (λ record_. (held_of record_).pairs) records) place []) seller buyer
     ≡ pair (get_or (map hour_of records) place blank) seller buyer
 laid_at [] laid place is seller buyer = absurd (false≢true is)
 laid_at (r ∷ rs) laid zero is seller buyer = All-head Laid r rs laid is seller buyer

@@ -6,10 +6,11 @@ use Rattle.tally.specs.Pairs.{pair, delivered}
 use Rattle.tally.specs.Settlement.{holds_at}
 use Rattle.tally.specs.States.{hour_at}
 use Rattle.tally.proofs.Numbering.{total_zero}
+use Rattle.tally.proofs.Overlaps.{pair_within}
 use Rattle.book.specs.Books.{state_of}
 use Rattle.book.specs.declared.book.Book.{Book}
 use Rattle.book.proofs.Facts.{sound_of}
-use Rattle.book.proofs.HourFigures.{unallotted_pair, deployment_within, miss_within}
+use Rattle.book.proofs.HourFigures.{deployment_within, miss_within}
 
 pub nothing_costs : (n : ℕ) (price : ℤ) → n ≡ 0 → pos n *ℤ price ≡ pos 0
 nothing_costs n price e = rw e (omega (arith, ints))
@@ -23,7 +24,7 @@ module _ (book : Book) (hour : ℕ) (isnt : (hour_at (state_of book) hour).allot
   unheld seller = ((sound_of book).hours hour).unheld isnt seller
 
   pub unheld_pair : (seller buyer : ℕ) → pair (hour_at (state_of book) hour) seller buyer ≡ 0
-  unheld_pair seller buyer = unallotted_pair book hour seller buyer isnt
+  unheld_pair seller buyer = omega (arith, pair_within (hour_at (state_of book) hour) seller buyer, unheld seller)
 
   pub undelivered : (seller buyer : ℕ) → delivered (hour_at (state_of book) hour) seller buyer ≡ 0
   undelivered seller buyer = omega (arith, unheld_pair seller buyer, deployment_within book hour seller buyer)

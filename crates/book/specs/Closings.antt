@@ -31,4 +31,4 @@ pub record SettledBy (tables : Tables) (most : ℕ) (moves : Moves) (state : Sta
   pub statement : SameStatement (statement_in heavy light) (statement_of state (needed_prices state tables) meanings)
   pub charged : (seller : ℕ) → IsParty state seller → at 0 charges seller
       ≡ day_charges state (needed_prices state tables) seller
-  pub small : (seller : ℕ) → at 0 charges seller ≤ 144000000000000
+  pub small : (seller : ℕ) → at 0 charges seller ≤ 1152000000000000

@@ -6,7 +6,7 @@ use Rattle.tally.specs.Pairs.{pair}
 use Rattle.tally.specs.States.{Proper}
 use Rattle.tally.specs.Statements.{due}
 use Rattle.tally.specs.Tally.{tallied}
-use Rattle.book.specs.Records.{by_seller, hour_of, set_up_in, state_in}
+use Rattle.book.specs.Records.{by_seller, held_of, hour_of, set_up_in, state_in}
 use Rattle.book.specs.declared.records.DayRecord.{DayRecord}
 use Rattle.book.specs.declared.records.HourRecord.{HourRecord}
 use Rattle.book.specs.declared.records.Pool.{Pool}
@@ -14,7 +14,7 @@ use Rattle.book.specs.declared.records.YearRecord.{YearRecord}
 
 -- the pairs of an allotted hour's record are those of its holdings and requests
 abbrev pub Laid : HourRecord → Type 0
-Laid hour = (hour_of hour).allotted ≡ true → (seller buyer : ℕ) → by_seller 0 hour.pairs seller buyer
+Laid hour = (hour_of hour).allotted ≡ true → (seller buyer : ℕ) → by_seller 0 (held_of hour).pairs seller buyer
     ≡ pair (hour_of hour) seller buyer
 
 -- Some list of lawful calls led to these records from their set-up: the state and each balance are what the tally makes

@@ -15,6 +15,7 @@ pub mod RuleMoves
 pub mod Pages
 pub mod Entries
 pub mod MadeFrom
+pub mod LentPages
 pub mod EntryStands
 pub mod CutTables
 pub mod Sharing

@@ -7,6 +7,7 @@ use Rattle.tally.specs.States.{State, SetUp}
 use Rattle.book.specs.Guarantee.{Stands}
 use Rattle.book.specs.Histories.{Made, tally_of}
 use Rattle.book.specs.MadeFrom.{AnsweredEntry, MadeFrom, call_from}
+use Rattle.book.specs.RuleMoves.{SameRule}
 use Rattle.book.specs.Runs.{Run}
 use Rattle.book.specs.declared.book.Book.{Book}
 use Rattle.book.specs.declared.call.Call.{Call}
@@ -25,10 +26,12 @@ module _ {S R : Type 0} (tables : S → Tables) (most : ℕ) (moves : Moves) (me
     answered = told after.told;
   }
 
-  -- A call of a list before and after it was made in a state, and what was made of it. Its entry and its source stay.
+  -- A call of a list before and after it was made in a state, and what was made of it. Its entry and its source stay, and
+  -- its rule unless it was asked.
   pub record Brought (state : State) (before after : Call S R) (call : Made) : Type 0 where
     pub entry : after.entry ≡ before.entry
     pub source : after.source ≡ before.source
+    pub same_rule : SameRule before.entry (told after.told) before.rule after.rule
     pub from : MadeFrom (said_by before after)
         (record { old = before.heavy; new = after.heavy }) (record { old = before.light; new = after.light }) state
     pub made : call ≡ call_from from call.left

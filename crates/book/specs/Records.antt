@@ -6,8 +6,9 @@ use Rattle.tally.specs.States.{State, SetUp, Year}
 use Rattle.book.specs.declared.records.DayRecord.{DayRecord}
 use Rattle.book.specs.declared.records.HourRecord.{HourRecord}
 use Rattle.book.specs.declared.records.Pool.{Pool}
-use Rattle.book.specs.declared.records.Stage.{Stage}
-use Rattle.book.specs.declared.records.Stage.TheVariants.{Unallotted, Allotted}
+use Rattle.book.specs.declared.records.HourRecord.TheVariants.{Unallotted, Allotted}
+use Rattle.book.specs.declared.records.Entered.{Entered}
+use Rattle.book.specs.declared.records.Held.{Held}
 use Rattle.book.specs.declared.records.YearRecord.{YearRecord}
 
 -- what stands for a number in a list: number 1 has the first place, and a number without a place has `none`
@@ -23,23 +24,35 @@ in_row none rows row column = at none (at [] rows row) column
 abbrev pub by_seller : {A : Type 0} → A → List (List A) → (seller buyer : ℕ) → A
 by_seller none rows seller buyer = in_row none rows buyer seller
 
--- an hour of another stage still takes entries
-abbrev pub is_allotted : Stage → Bool
-is_allotted Unallotted = false
-is_allotted Allotted = true
+-- whether an hour is allotted, what was entered for it, and what it holds: nothing before
+abbrev pub is_allotted : HourRecord → Bool
+is_allotted (Unallotted entered) = false
+is_allotted (Allotted entered held) = true
+
+abbrev pub entered_of : HourRecord → Entered
+entered_of (Unallotted entered) = entered
+entered_of (Allotted entered held) = entered
+
+abbrev pub held_of : HourRecord → Held
+held_of (Unallotted entered) = record { holdings = []; pairs = []; deployed = []; missed = []; cover = [] }
+held_of (Allotted entered held) = held
 
 -- an hour: figures by number of party, and pairs by seller and buyer
 abbrev pub hour_of : HourRecord → Hour
 hour_of record_ = record {
-  results = at (pos 0) record_.results;
-  offers = at 0 record_.offers;
-  requests = at 0 record_.requests;
-  allotted = is_allotted record_.stage;
-  holdings = at 0 record_.holdings;
-  deployed = by_seller 0 record_.deployed;
-  missed = by_seller 0 record_.missed;
-  cover = by_seller Covered record_.cover;
+  results = at (pos 0) (entered_of record_).results;
+  offers = at 0 (entered_of record_).offers;
+  requests = at 0 (entered_of record_).requests;
+  allotted = is_allotted record_;
+  holdings = at 0 (held_of record_).holdings;
+  deployed = by_seller 0 (held_of record_).deployed;
+  missed = by_seller 0 (held_of record_).missed;
+  cover = by_seller Covered (held_of record_).cover;
 }
+
+-- an hour of which so much was entered, and that is not allotted
+abbrev pub unallotted : Entered → Hour
+unallotted entered = hour_of (Unallotted entered)
 
 -- the hours of a day by number; a number that is no hour's has nothing
 abbrev pub hours_of : List HourRecord → ℕ → Hour

@@ -1,5 +1,5 @@
 -- How each call moves the rule that it is given. Assumes nothing.
-use Rattle.std.specs.Prelude.{◌≡◌, ℕ, zero, suc, List, unsigned_abs}
+use Rattle.std.specs.Prelude.{◌≡◌, ◌≢◌, ℕ, zero, suc, Bool, true, false, ◌⊎◌, List, unsigned_abs}
 use Rattle.tariff.specs.Answers.{Answer, granted}
 use Rattle.tariff.specs.Division.{Division, Moves, Moved}
 use Rattle.tally.specs.Allotment.{requested, allot_total, allot_claims}
@@ -9,6 +9,8 @@ use Rattle.tally.specs.Hours.{Hour}
 use Rattle.tally.specs.Pairs.{pairs_of}
 use Rattle.tally.specs.States.{State, hour_named}
 use Rattle.tally.specs.Turns.{Turns}
+use Rattle.book.specs.declared.entry.Entry.{Entry}
+use Rattle.book.specs.declared.entry.Entry.TheVariants.{Allot, Deploy, Close}
 
 -- where anything is requested, the rule is asked to divide a total among claims; else its meaning stays
 abbrev pub MovedFor : ℕ → Moves → Answer → Division → ℕ → List ℕ → Division → Type 0
@@ -31,3 +33,14 @@ MovedBy moves state (deploy hour buyer mw most meaning) answered before after =
 MovedBy moves state (close_day tables most meanings heavy_page light_page) granted before after =
     Turns moves state (needed_prices state tables) meanings before after
 MovedBy moves state _ answered before after = after ≡ before
+
+-- the entries for which a rule is asked
+abbrev pub asks_rule : Entry → Bool
+asks_rule (Allot hour) = true
+asks_rule (Deploy hour buyer mw) = true
+asks_rule Close = true
+asks_rule _ = false
+
+-- a call leaves the rule itself as it was, unless its entry asks the rule and is granted
+abbrev pub SameRule : {R : Type 0} → Entry → Answer → (before after : R) → Type 0
+SameRule entry answered before after = (answered ≢ granted) ⊎ (asks_rule entry ≡ false) → after ≡ before

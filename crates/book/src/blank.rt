@@ -5,27 +5,38 @@ ghost use Rattle.tally.specs.Hours.{blank};
 ghost use Rattle.tally.specs.States.{fresh_year};
 ghost use Rattle.book.specs.Led.{Laid};
 ghost use Rattle.book.specs.Records.{hour_of, hours_of, year_in};
+ghost use Rattle.book.specs.declared.records.HourRecord.TheVariants.{Unallotted};
 
-use crate::records::{DayRecord, HOURS, HourRecord, MONTHS, PARTIES, Stage, YearRecord};
+use crate::records::{ByHour, DayRecord, Entered, HOURS, HourRecord, MONTHS, PARTIES, YearRecord};
 use tariff::blocks::DayKind;
-use tariff::charges::Cover;
 
-impl HourRecord {
-    // An hour of which nothing was entered.
-    fn blank() -> HourRecord
-        ensures hour { hour_of result ≡ blank }
-        ensures laid { Laid result }
+impl Entered {
+    // Nothing was entered.
+    fn blank() -> Entered
+        ensures hour { hour_of (Unallotted result) ≡ blank }
+        ensures laid { Laid (Unallotted result) }
     {
-        HourRecord {
-            stage: Stage::Unallotted,
+        Entered {
             results: [0; PARTIES],
             offers: [0; PARTIES],
             requests: [0; PARTIES],
-            holdings: [0; PARTIES],
-            pairs: [[0; PARTIES]; PARTIES],
-            deployed: [[0; PARTIES]; PARTIES],
-            missed: [[0; PARTIES]; PARTIES],
-            cover: [[Cover::Covered; PARTIES]; PARTIES],
+        }
+    }
+}
+
+// Clears every hour where it stands, so that what only an allotted hour has costs nothing.
+fn clear(hours: &mut ByHour<HourRecord>)
+    ensures blank { hours_of hours.new ≡ λ hour. blank }
+    ensures laid { All Laid hours.old → All Laid hours.new }
+{
+    for place in 0..HOURS {
+        match &mut hours[place] {
+            HourRecord::Unallotted { entered } => *entered = Entered::blank(),
+            allotted => {
+                *allotted = HourRecord::Unallotted {
+                    entered: Entered::blank(),
+                }
+            }
         }
     }
 }
@@ -40,25 +51,27 @@ impl DayRecord {
         ensures laid { All Laid result.hours }
     {
         DayRecord {
+            number: 0,
             is_open: false,
-            ..DayRecord::opened(0, DayKind::Workday)
+            kind: DayKind::Workday,
+            hours: [HourRecord::Unallotted {
+                entered: Entered::blank(),
+            }; HOURS],
         }
     }
 
-    // A day that was just opened.
-    pub(crate) fn opened(number: u64, kind: DayKind) -> DayRecord
-        ensures number { result.number ≡ number }
-        ensures is_open { result.is_open ≡ true }
-        ensures kind { result.kind ≡ kind }
-        ensures hours { hours_of result.hours ≡ λ hour. blank }
-        ensures laid { All Laid result.hours }
+    // Opens a day.
+    pub(crate) fn open(&mut self, number: u64, kind: DayKind)
+        ensures number { self.new.number ≡ number }
+        ensures is_open { self.new.is_open ≡ true }
+        ensures kind { self.new.kind ≡ kind }
+        ensures hours { hours_of self.new.hours ≡ λ hour. blank }
+        ensures laid { All Laid self.old.hours → All Laid self.new.hours }
     {
-        DayRecord {
-            number,
-            is_open: true,
-            kind,
-            hours: [HourRecord::blank(); HOURS],
-        }
+        self.number = number;
+        self.is_open = true;
+        self.kind = kind;
+        clear(&mut self.hours);
     }
 }
 

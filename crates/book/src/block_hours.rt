@@ -2,9 +2,8 @@
 ghost use Rattle.std.specs.Prelude.{◌≡◌, ℕ, ◌<◌, ◌≤◌, suc, ℤ, unsigned_abs, slice_index};
 ghost use Rattle.tally.specs.Numbered.{greatest, total_z};
 ghost use Rattle.book.specs.Records.{at};
-ghost use Rattle.book.specs.declared.places.HourPlace.{HourPlace};
 
-use crate::places::HourPlace;
+use crate::places::HourNumber;
 use crate::records::ByHour;
 use tariff::blocks::Block;
 
@@ -20,33 +19,29 @@ pub(crate) struct BlockHours {
 
 impl BlockHours {
     // The sum of a figure over these hours.
-    pub(crate) fn total<F: Fn(HourPlace) -> i64>(&self, figure: F) -> i64
+    pub(crate) fn total<F: Fn(HourNumber) -> i64>(&self, figure: F) -> i64
         requires callable { F.IsAlwaysCallable figure }
-        requires small { (hour : HourPlace) (n : ℤ) → F.post figure hour n → unsigned_abs n ≤ 500000000000 }
-        ensures value { (f : ℕ → ℤ) → ((hour : HourPlace) (n : ℤ) → F.post figure hour n → n ≡ f (suc hour.place))
+        requires small { (hour : ℕ) (n : ℤ) → F.post figure hour n → unsigned_abs n ≤ 4000000000000 }
+        ensures value { (f : ℕ → ℤ) → ((hour : ℕ) (n : ℤ) → F.post figure hour n → n ≡ f hour)
             → result ≡ total_z (λ k. f (suc (at 0 self.now.places k))) self.now.count }
-        ensures size { unsigned_abs result ≤ 12000000000000 }
+        ensures size { unsigned_abs result ≤ 96000000000000 }
     {
         let mut total = 0;
         for index in 0..self.count {
-            total += figure(HourPlace {
-                place: self.places[index],
-            });
+            total += figure(HourNumber::at(self.places[index]));
         }
         total
     }
 
     // The greatest of a figure in these hours.
-    pub(crate) fn greatest<F: Fn(HourPlace) -> u64>(&self, figure: F) -> u64
+    pub(crate) fn greatest<F: Fn(HourNumber) -> u16>(&self, figure: F) -> u16
         requires { F.IsAlwaysCallable figure }
-        ensures { (f : ℕ → ℕ) → ((hour : HourPlace) (n : ℕ) → F.post figure hour n → n ≡ f (suc hour.place))
+        ensures { (f : ℕ → ℕ) → ((hour : ℕ) (n : ℕ) → F.post figure hour n → n ≡ f hour)
             → result ≡ greatest (λ k. f (suc (at 0 self.now.places k))) self.now.count }
     {
         let mut greatest = 0;
         for index in 0..self.count {
-            greatest = greatest.max(figure(HourPlace {
-                place: self.places[index],
-            }));
+            greatest = greatest.max(figure(HourNumber::at(self.places[index])));
         }
         greatest
     }

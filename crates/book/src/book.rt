@@ -3,14 +3,11 @@ ghost use Rattle.book.specs.Led.{Led};
 
 use crate::records::{ACCOUNTS, DayRecord, Pool, YearRecord};
 
-mod allotting;
 mod checks;
 mod closing;
 mod days;
-mod deploying;
 mod entering;
 mod entries;
-mod figures;
 mod held_hours;
 mod pricing;
 mod reading;
@@ -26,3 +23,6 @@ pub struct Book {
     pub(crate) balances: [i64; ACCOUNTS],
     ghost led: { ∥ Led pool day year balances ∥₁ },
 }
+
+// A book lies in one block of memory, most of it what allotted hours hold.
+const _: () = prove!(size_of::<Book>() <= 30_000);

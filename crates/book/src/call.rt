@@ -2,12 +2,14 @@
 ghost use Rattle.std.specs.Prelude.{◌≡◌};
 ghost use Rattle.book.specs.EntryStands.{EntryStands};
 ghost use Rattle.book.specs.Playing.{said_by};
+ghost use Rattle.book.specs.RuleMoves.{SameRule};
+ghost use Rattle.tariff.specs.Answers.{told};
 
 use crate::book::Book;
 use crate::entry::Entry;
 use crate::payment::Payment;
 use crate::statement::Statement;
-use pages::page::PAGE_ENTRIES;
+use pages::page::{PAGE_ENTRIES, Page};
 use tariff::division::DivisionRule;
 use tariff::refusal::Refusal;
 use tariff::source::PriceSource;
@@ -30,10 +32,13 @@ impl<S: PriceSource, R: DivisionRule> Call<S, R> {
             (record { old = self.old.light; new = self.new.light }) book.new }
         ensures entry { self.new.entry ≡ self.old.entry }
         ensures source { self.new.source ≡ self.old.source }
+        ensures same_rule { SameRule self.old.entry (told self.new.told) self.old.rule self.new.rule }
     {
+        let mut heavy = Page::new(&mut self.heavy);
+        let mut light = Page::new(&mut self.light);
         let mut statement = Statement {
-            heavy: &mut self.heavy,
-            light: &mut self.light,
+            heavy: &mut heavy,
+            light: &mut light,
         };
         self.told = book.enter(self.entry, &self.source, &mut self.rule, &mut statement);
     }

@@ -1,17 +1,15 @@
 // The book of a pool: it takes the calls of its companies, allots, and settles each day at its close.
 #![tactic(auto)]
 
-mod allotments;
 mod amounts;
 mod blank;
 mod block_hours;
 pub mod book;
 pub mod call;
 mod cut_table;
-mod day;
-mod deployments;
 mod division;
 pub mod entry;
+mod figures;
 mod hours;
 pub mod laws;
 mod laying;
@@ -27,3 +25,4 @@ mod sums;
 mod supply;
 mod tables;
 pub mod two_rules;
+mod widths;

@@ -22,26 +22,30 @@ pub(crate) type ByHour<T> = [T; HOURS];
 
 pub(crate) type ByMonth<T> = [T; MONTHS];
 
-// Whether an hour still takes entries, or was allotted.
+// What was entered for an hour. A party stands at the place before its number.
 #[derive(Clone, Copy)]
-pub(crate) enum Stage {
-    Unallotted,
-    Allotted,
+pub(crate) struct Entered {
+    pub(crate) results: ByParty<i16>,
+    pub(crate) offers: ByParty<u16>,
+    pub(crate) requests: ByParty<u16>,
 }
 
-// One hour of the open day. A party stands at the place before its number. Pairs, deployments and misses have a row for
-// each buyer, so that a deployment replaces one row.
+// What an allotted hour has. Pairs, deployments and misses have a row for each buyer, so that a deployment replaces one
+// row.
 #[derive(Clone, Copy)]
-pub(crate) struct HourRecord {
-    pub(crate) stage: Stage,
-    pub(crate) results: ByParty<i64>,
-    pub(crate) offers: ByParty<u64>,
-    pub(crate) requests: ByParty<u64>,
-    pub(crate) holdings: ByParty<u64>,
-    pub(crate) pairs: ByPair<u64>,
-    pub(crate) deployed: ByPair<u64>,
-    pub(crate) missed: ByPair<u64>,
+pub(crate) struct Held {
+    pub(crate) holdings: ByParty<u16>,
+    pub(crate) pairs: ByPair<u16>,
+    pub(crate) deployed: ByPair<u16>,
+    pub(crate) missed: ByPair<u16>,
     pub(crate) cover: ByPair<Cover>,
+}
+
+// One hour of the open day: it takes entries until it is allotted, and only then holds anything.
+#[derive(Clone, Copy)]
+pub(crate) enum HourRecord {
+    Unallotted { entered: Entered },
+    Allotted { entered: Entered, held: Held },
 }
 
 #[derive(Clone, Copy)]

@@ -1,12 +1,13 @@
 // The statement of a closed day.
 use crate::payment::Payment;
+use pages::page::Page;
 
 mod pages_of;
 
-// The entries of a page for each block, in slices that the caller lends. A page within a statement would lose sight of
-// them.
+// A page for each block, which the caller lends. Its loan and that of the slice below it are two lifetimes: under one
+// the page would stay lent for as long as the slice, and its caller could not read it after a close.
 #[derive(Drop)]
-pub struct Statement<'a> {
-    pub heavy: &'a mut [Payment],
-    pub light: &'a mut [Payment],
+pub struct Statement<'p, 'q, 'h, 'l> {
+    pub heavy: &'p mut Page<'h, Payment>,
+    pub light: &'q mut Page<'l, Payment>,
 }

@@ -1,6 +1,7 @@
 // Two rules of different types on one book.
-ghost use Rattle.std.specs.Prelude.{◌≡◌};
 ghost use Rattle.tariff.specs.Answers.{told};
+ghost use Rattle.book.specs.LentPages.{heavy_change, light_change, SameLenders};
+ghost use Rattle.book.specs.RuleMoves.{SameRule};
 ghost use Rattle.book.specs.TwoCalls.{OneAfterAnother};
 
 use crate::book::Book;
@@ -18,7 +19,7 @@ pub fn by_two_rules<S: PriceSource, A: DivisionRule, B: DivisionRule>(
     source: &S,
     rule: &mut A,
     other: &mut B,
-    statement: &mut Statement<'_>,
+    statement: &mut Statement<'_, '_, '_, '_>,
 ) -> (Result<(), Refusal>, Result<(), Refusal>)
     ensures calls { OneAfterAnother
         (record {
@@ -39,11 +40,10 @@ pub fn by_two_rules<S: PriceSource, A: DivisionRule, B: DivisionRule>(
           last = B.meaning other.new;
           answered = told result.1;
         })
-        book.old
-        (record { old = statement.old.heavy.now; new = statement.new.heavy.now })
-        (record { old = statement.old.light.now; new = statement.new.light.now }) book.new }
-    ensures heavy { statement.new.heavy.ghost_name ≡ statement.old.heavy.ghost_name }
-    ensures light { statement.new.light.ghost_name ≡ statement.old.light.ghost_name }
+        book.old (heavy_change statement.old statement.new) (light_change statement.old statement.new) book.new }
+    ensures lenders { SameLenders statement.old statement.new }
+    ensures same_rule { SameRule first (told result.0) rule.old rule.new }
+    ensures same_other { SameRule second (told result.1) other.old other.new }
 {
     let told = book.enter(first, source, rule, statement);
     (told, book.enter(second, source, other, statement))

@@ -79,20 +79,3 @@ impl<'a, E: Copy> Page<'a, E> {
         Ok(())
     }
 }
-
-// Tests a page that stands in the caller's slice.
-pub fn check_page<E>(entries: &[E]) -> Result<(), Refusal>
-    ensures { told result ≡ page_answer (length entries.now) }
-{
-    check_count(entries.len())
-}
-
-// Fills a page that stands in the caller's slice.
-pub fn fill_page<E: Copy>(entries: &mut [E], table: &[[E; 12]; 12]) -> Result<(), Refusal>
-    ensures answer { told result ≡ page_answer (length entries.old) }
-    ensures entries { entries.new ≡ if_granted (told result) (joined table.now) entries.old }
-    ensures value { IfOk result (λ _. (none : E) (seller buyer : ℕ) → seller < 12 → buyer < 12
-        → page_at none entries.new (suc seller) (suc buyer) ≡ slice_index_or (slice_index_or table.now seller []) buyer none) }
-{
-    Page::new(entries).fill(table)
-}

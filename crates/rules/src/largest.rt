@@ -22,21 +22,26 @@ impl fmt::Display for LargestRemainder {
     }
 }
 
-// How many places come before place i: their remainder is larger, or equal and they stand earlier.
+// Whether fewer places come before place i than there are units: places whose remainder is larger, or equal where they stand
+// earlier.
 #[tactic(auto, using(crate::specs::Counts::count_more))]
-fn rank(remainders: &[u64], i: usize) -> u64
-    requires { i < length remainders.now }
-    ensures { result ≡ rank_of (λ k. slice_index remainders.now k) (length remainders.now) i }
+fn gets_unit(remainders: &[u64], i: usize, units: u64) -> bool
+    requires place { i < length remainders.now }
+    requires some { 0 < units }
+    ensures { result ≡ nat_lt (rank_of (λ k. slice_index remainders.now k) (length remainders.now) i) units }
 {
     let own = (Reverse(remainders[i]), i);
-    let mut count = 0;
-    // Filtered and counted by a chain, all of a division takes three times as long.
+    let mut before = 0;
+    // A loop, since it ends where the units are gone: a count by a chain goes on to the last place.
     for (j, &other) in remainders.iter().enumerate() {
         if (Reverse(other), j) < own {
-            count += 1;
+            before += 1;
+            if before == units {
+                return false;
+            }
         }
     }
-    count
+    true
 }
 
 // Writes the whole parts of a division and their remainders, and returns the units that the whole parts leave.
@@ -67,8 +72,12 @@ fn give_units(units: u64, remainders: &[u64], shares: &mut [u64])
     ensures { (k : ℕ) → k < length remainders.now → slice_index shares.new k ≡ slice_index shares.old k
         + (if nat_lt (rank_of (λ j. slice_index remainders.now j) (length remainders.now) k) units then 1 else 0) }
 {
+    // Most divisions leave none, and to compare every two places is most of the work.
+    if units == 0 {
+        return;
+    }
     for (i, share) in shares.iter_mut().enumerate() {
-        if rank(remainders, i) < units {
+        if gets_unit(remainders, i, units) {
             *share += 1;
         }
     }

@@ -10,7 +10,7 @@ use book::payment::Payment;
 use book::statement::Statement;
 use lines::entry::LineEntry;
 use lines::reading::read;
-use pages::page::PAGE_ENTRIES;
+use pages::page::{PAGE_ENTRIES, Page};
 use rules::largest::LargestRemainder;
 use sheets::hour_sheet::HourSheet;
 use tariff::refusal::Refusal;
@@ -55,9 +55,11 @@ impl Session {
         let Some(book) = &mut self.book else {
             return Err(Refusal::NotSetUp);
         };
+        let mut heavy = Page::new(&mut self.heavy);
+        let mut light = Page::new(&mut self.light);
         let mut statement = Statement {
-            heavy: &mut self.heavy,
-            light: &mut self.light,
+            heavy: &mut heavy,
+            light: &mut light,
         };
         book.enter(entry, &self.sheet, &mut LargestRemainder, &mut statement)
     }

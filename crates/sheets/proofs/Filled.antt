@@ -1,6 +1,6 @@
 -- Rows of hours: one in which every hour is missing, and one of which a part is filled. Assumes nothing.
 use Rattle.std.proofs.Common.{◌≡◌, ℕ, zero, suc, ◌+◌, ◌-◌, ◌<◌, ◌≤◌, Bool, true, false, cond, ◌&&◌, eqb, leb, ltb, List, length}
-use Rattle.std.proofs.Common.{get_or, replicate, None, ⊎_elim, ◌∙◌, refl, ap, arith, rules, length-drop, length-take}
+use Rattle.std.proofs.Common.{get_or, replicate, ⊎_elim, ◌∙◌, refl, ap, arith, rules, length-drop, length-take}
 use Rattle.std.proofs.lemmas.Bool.{cases_lt, cond_both}
 use Rattle.std.proofs.lemmas.Bool.Decides.{nat_tests}
 use Rattle.std.proofs.lemmas.List.{get_or-replicate, places}
@@ -8,7 +8,6 @@ use borrow.Rule.Slice.PartMut.{mid_of, put_mid}
 use Rattle.tariff.specs.Blocks.{is_hour}
 use Rattle.sheets.proofs.SameSheets.{same_sheet}
 use Rattle.sheets.specs.DaySheets.{hour_of, missing, sheet_of}
-use Rattle.sheets.specs.Kept.{cents_of, parts_of}
 use Rattle.sheets.specs.Sheets.{among, filled, opened}
 use Rattle.sheets.specs.declared.day_sheet.DaySheet.{DaySheet}
 use Rattle.sheets.specs.declared.day_sheet.Hour.{Hour}
@@ -19,20 +18,16 @@ same_everywhere zero k d = refl
 same_everywhere (suc n) zero d = refl
 same_everywhere (suc n) (suc k) d = same_everywhere n k d
 
--- a sheet on which one hour that has no figure stands everywhere
-module _ {Q : Type 0} (sheet : DaySheet Q) (h : Hour) (all : sheet.hours ≡ replicate 24 h)
-    (none : (h.real_time ≡ None) × (h.factor ≡ None)) where
-  no_figure : h ≡ missing
-  no_figure = λ i. record { real_time = none.0 i; factor = none.1 i }
-
+-- a sheet on which no hour has a figure
+module _ {Q : Type 0} (sheet : DaySheet Q) (all : sheet.hours ≡ replicate 24 missing) where
   nothing : (d hour : ℕ) → hour_of sheet d hour ≡ missing
   nothing d hour =
       cond_both (eqb d sheet.day && is_hour hour) (get_or sheet.hours (hour - 1) missing) missing (λ x. x ≡ missing)
-      (λ _. rw (all, no_figure) (same_everywhere 24 (hour - 1) missing)) (λ _. refl)
+      (λ _. rw all (same_everywhere 24 (hour - 1) missing)) (λ _. refl)
 
-  pub sheet_opened : sheet_of sheet ≡ opened sheet.day (cents_of sheet.heavy) (cents_of sheet.light)
-  sheet_opened = same_sheet _ _ refl (λ d block. refl) (λ d hour. ap (λ x. cents_of x.real_time) (nothing d hour))
-      (λ d hour. ap (λ x. parts_of x.factor) (nothing d hour))
+  pub sheet_opened : sheet_of sheet ≡ opened sheet.day sheet.heavy sheet.light
+  sheet_opened = same_sheet _ _ refl (λ d block. refl) (λ d hour. ap (λ x. x.real_time) (nothing d hour))
+      (λ d hour. ap (λ x. x.factor) (nothing d hour))
 
 -- a place of a row after k places from a on were filled with v
 at_filled : {A : Type 0} (a k : ℕ) (xs ys : List A) (v d : A) (i : ℕ) → a + k ≤ length xs → ys ≡ replicate k v
@@ -77,5 +72,5 @@ module _ {Q : Type 0} (sheet : DaySheet Q) (first last : ℕ) (ys : List Hour) (
       ∙ of_either f (among sheet.day first last d hour) v (hour_of sheet d hour)
 
   pub sheet_filled : sheet_of (record sheet { hours = put_mid (first - 1) (last - (first - 1)) sheet.hours ys })
-      ≡ filled first last (cents_of v.real_time) (parts_of v.factor) (sheet_of sheet)
-  sheet_filled = same_sheet _ _ refl (λ d block. refl) (part (λ h. cents_of h.real_time)) (part (λ h. parts_of h.factor))
+      ≡ filled first last v.real_time v.factor (sheet_of sheet)
+  sheet_filled = same_sheet _ _ refl (λ d block. refl) (part (λ h. h.real_time)) (part (λ h. h.factor))

@@ -1,15 +1,20 @@
 -- What a sheet holds. Assumes nothing.
 use Rattle.std.specs.Prelude.{ℕ, ◌-◌, if◌then◌else◌, ◌&&◌, None, ◌==◌, slice_index_or}
 use Rattle.tariff.specs.Blocks.{is_hour}
-use Rattle.tariff.specs.Tables.{Tables}
-use Rattle.sheets.specs.Kept.{cents_of, parts_of}
+use Rattle.tariff.specs.Tables.{Tables, Priced, Factored}
 use Rattle.sheets.specs.Sheets.{Sheet, block_price}
 use Rattle.sheets.specs.declared.day_sheet.DaySheet.{DaySheet}
 use Rattle.sheets.specs.declared.day_sheet.Hour.{Hour}
 
+pub no_price : Priced None
+no_price price e = absurd cc
+
+pub no_factor : Factored None
+no_factor factor e = absurd cc
+
 -- an hour that has no figure
 abbrev pub missing : Hour
-missing = record { real_time = None; factor = None }
+missing = record { real_time = None; factor = None; priced = no_price; factored = no_factor }
 
 -- what stands for an hour of a day; other days, and hours outside the day, have no figure
 abbrev pub hour_of : {Q : Type 0} → DaySheet Q → ℕ → ℕ → Hour
@@ -21,9 +26,9 @@ sheet_of sheet =
     record {
       day = sheet.day;
       tables = record {
-        day_ahead = λ day block. if day == sheet.day then block_price (cents_of sheet.heavy) (cents_of sheet.light) block else None;
-        real_time = λ day hour. cents_of (hour_of sheet day hour).real_time;
-        factor = λ day hour. parts_of (hour_of sheet day hour).factor;
+        day_ahead = λ day block. if day == sheet.day then block_price sheet.heavy sheet.light block else None;
+        real_time = λ day hour. (hour_of sheet day hour).real_time;
+        factor = λ day hour. (hour_of sheet day hour).factor;
       };
     }
 

@@ -1,4 +1,3 @@
-pub mod Kept
 pub mod Sheets
 pub mod DaySheets
 pub mod Quarters

@@ -1,8 +1,8 @@
 // A sheet on which each hour's real-time price is the average of four quarter-hour results. It is settled as they are
 // entered, since they are never asked for again.
 ghost use Rattle.std.specs.Prelude.{◌≡◌};
-ghost use Rattle.sheets.specs.Kept.{cents_of};
 ghost use Rattle.sheets.specs.Quarters.{average, average_of, quarters_answer};
+ghost use Rattle.tariff.specs.Tables.{Priced};
 
 use crate::day_sheet::DaySheet;
 use crate::real_time::RealTime;
@@ -21,7 +21,8 @@ fn average(
     third: Option<Price>,
     fourth: Option<Price>,
 ) -> Option<Price>
-    ensures { cents_of result ≡ average (cents_of first) (cents_of second) (cents_of third) (cents_of fourth) }
+    ensures value { result ≡ average first second third fourth }
+    ensures limits { Priced result }
 {
     Some(Price::average(first?, second?, third?, fourth?))
 }

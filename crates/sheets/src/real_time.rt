@@ -1,7 +1,7 @@
 // How an entry of hours gives their real-time price.
 ghost use Rattle.std.specs.Prelude.{◌≡◌, ℕ, ℤ, Option, IfOk};
 ghost use Rattle.tariff.specs.Answers.{Answer, told};
-ghost use Rattle.sheets.specs.Kept.{cents_of};
+ghost use Rattle.tariff.specs.Tables.{Priced};
 
 use tariff::figures::Price;
 use tariff::refusal::Refusal;
@@ -22,5 +22,6 @@ pub trait RealTime: Copy {
     // That price, or the refusal of the first figure that is not taken.
     fn settle(self) -> Result<Option<Price>, Refusal>
         ensures answer { told result ≡ answer self }
-        ensures value { IfOk result (λ kept. cents_of kept ≡ price self) };
+        ensures value { IfOk result (λ kept. kept ≡ price self) }
+        ensures limits { IfOk result Priced };
 }

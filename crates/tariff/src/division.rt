@@ -1,6 +1,6 @@
 // A rule that divides an amount among claims.
-ghost use Rattle.std.specs.Prelude.{◌≡◌, ℕ, List};
-ghost use Rattle.tariff.specs.Answers.{told};
+ghost use Rattle.std.specs.Prelude.{◌≡◌, ◌≢◌, ℕ, List};
+ghost use Rattle.tariff.specs.Answers.{granted, told};
 ghost use Rattle.tariff.specs.Division.{Division, Divided, LawfulRule};
 
 use crate::refusal::Refusal;
@@ -26,8 +26,9 @@ pub trait DivisionRule {
 
     // Writes the shares of `total` among `claims`, or refuses and alters neither the rule nor the shares.
     fn divide(&mut self, total: u64, claims: &[u64], shares: &mut [u64]) -> Result<(), Refusal>
-        ensures { Divided LIMIT moves (meaning self.old) total claims.now shares.old
-            (told result) shares.new (meaning self.new) };
+        ensures divided { Divided LIMIT moves (meaning self.old) total claims.now shares.old
+            (told result) shares.new (meaning self.new) }
+        ensures same { told result ≢ granted → self.new ≡ self.old };
 
     ghost lawful: { (rule : Self) → LawfulRule LIMIT (meaning rule) };
 }

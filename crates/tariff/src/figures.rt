@@ -1,15 +1,14 @@
-// Figures that are kept only within their limits.
-ghost use Rattle.std.specs.Prelude.{◌≡◌, ◌≤◌, ℤ, pos, Bool, true, IfOk, IfSome, is_some, unsigned_abs};
-ghost use Rattle.std.proofs.Common.{arith};
-ghost use Rattle.std.proofs.lemmas.Bool.Decides.{nat_tests};
+// Figures that are kept only within their limits: a clause sees each as the figure that it is.
+ghost use Rattle.std.specs.Prelude.{◌≡◌, ◌≤◌, ℕ, ◌*◌, ℤ, ◌+ℤ◌, pos, Bool, IfOk, IfSome, is_some, unsigned_abs};
 ghost use Rattle.std.specs.Option.{option_map};
 ghost use Rattle.tariff.specs.Answers.{told, require};
 ghost use Rattle.tariff.specs.Figures.{between, or_missing};
-ghost use Rattle.tariff.specs.Prices.{is_price, is_factor, most_price, most_factor};
+ghost use Rattle.tariff.specs.Prices.{average_price, is_price, is_factor, most_price, most_factor};
 ghost use Rattle.tariff.specs.declared.refusal.Refusal.TheVariants.{Figure as figure_at};
 
-use crate::prices::is_price;
+use crate::prices::{is_price, nearest_whole};
 use crate::refusal::Refusal;
+use std::marker::Model;
 
 pub(crate) const MOST_PRICE: u64 = 1_000_000;
 
@@ -36,49 +35,101 @@ pub trait Figure: Sized {
     {
         Self::kept(figure).ok_or(Refusal::Figure { position })
     }
-
-    ghost limited: { (kept : Self) → is_within (entered kept) ≡ true };
 }
 
 // A price, in cents per MWh.
 #[derive(Clone, Copy, Debug, PartialEq, Eq, PartialOrd, Ord)]
 pub struct Price {
-    pub cents: i64,
-    pub ghost within: { unsigned_abs cents ≤ most_price },
+    cents: i32,
+}
+
+impl Model for Price {
+    ghost Value = { ℤ };
+
+    ghost view = { λ price. price.cents };
+
+    ghost invariant = { λ price. unsigned_abs price.cents ≤ most_price };
+
+    ghost inverse = { λ price. record { cents = price } };
 }
 
 // A shaping factor, in ten-thousandths.
 #[derive(Clone, Copy, Debug, PartialEq, Eq, PartialOrd, Ord)]
 pub struct Factor {
-    pub parts: u32,
-    pub ghost within: { parts ≤ most_factor },
+    parts: u32,
+}
+
+impl Model for Factor {
+    ghost Value = { ℕ };
+
+    ghost view = { λ factor. factor.parts };
+
+    ghost invariant = { λ factor. factor.parts ≤ most_factor };
+
+    ghost inverse = { λ factor. record { parts = factor } };
+}
+
+impl Price {
+    // The price as a plain figure, which a caller can compute with.
+    pub fn cents(self) -> i64
+        ensures value { result ≡ self }
+        ensures size { unsigned_abs result ≤ most_price }
+    {
+        i64::from(self.cents)
+    }
+
+    // Four prices added up.
+    #[tactic(auto, using(crate::proofs::AverageSize::sum_kept, crate::proofs::AverageSize::sum_size, crate::proofs::AverageSize::sum_fits))]
+    fn sum(first: Price, second: Price, third: Price, fourth: Price) -> i64
+        ensures value { result ≡ first +ℤ second +ℤ third +ℤ fourth }
+        ensures size { unsigned_abs result ≤ 4 * most_price }
+    {
+        first.cents() + second.cents() + third.cents() + fourth.cents()
+    }
+
+    // The average of four prices, to the nearest cent: four names as in its rule, where an array would have four indices.
+    #[tactic(auto, using(crate::proofs::AverageSize::average_size))]
+    pub fn average(first: Price, second: Price, third: Price, fourth: Price) -> Price
+        ensures value { result ≡ average_price first second third fourth }
+        ensures size { unsigned_abs result ≤ most_price }
+    {
+        Price {
+            // i64 has no From to i32, and try_from would need a case that never comes; as is proved to lose nothing.
+            cents: nearest_whole(Price::sum(first, second, third, fourth), 4) as i32,
+        }
+    }
 }
 
 impl Factor {
     // The factor of so many ten-thousandths, unless they pass its limit. No TryFrom, for the reason above.
     pub fn new(parts: u64) -> Option<Factor>
         ensures variant { is_some result ≡ is_factor parts }
-        ensures value { IfSome result (λ factor. factor.parts ≡ parts) }
+        ensures value { IfSome result (λ factor. factor ≡ parts) }
     {
         match u32::try_from(parts) {
             Ok(parts) if parts <= MOST_FACTOR => Some(Factor { parts }),
             _ => None,
         }
     }
+
+    // The factor as a plain figure, which a caller can compute with.
+    pub fn parts(self) -> u32
+        ensures value { result ≡ self }
+        ensures size { result ≤ most_factor }
+    {
+        self.parts
+    }
 }
 
 impl Figure for Price {
     ghost is_within = { is_price };
 
-    ghost entered = { λ price. price.cents };
-
-    ghost limited = { λ price. Prim.grind (arith, nat_tests) };
+    ghost entered = { λ price. price };
 
     fn kept(figure: i64) -> Option<Price> {
-        if is_price(figure) {
-            Some(Price { cents: figure })
-        } else {
-            None
+        match i32::try_from(figure) {
+            Ok(cents) if is_price(figure) => Some(Price { cents }),
+            _ => None,
         }
     }
 }
@@ -86,9 +137,7 @@ impl Figure for Price {
 impl Figure for Factor {
     ghost is_within = { between 0 most_factor };
 
-    ghost entered = { λ factor. pos factor.parts };
-
-    ghost limited = { λ factor. Prim.grind (arith, nat_tests) };
+    ghost entered = { pos };
 
     fn kept(figure: i64) -> Option<Factor> {
         u64::try_from(figure).ok().and_then(Factor::new)

@@ -1,7 +1,7 @@
 // Settlement prices of one hour, in cents per MWh.
 ghost use Rattle.std.specs.Prelude.{◌≡◌, ◌*◌, ◌≤◌, pos, ◌*ℤ◌, ◌≤ℤ◌, IfOk, unsigned_abs};
 ghost use Rattle.tariff.specs.Answers.{Gives};
-ghost use Rattle.tariff.specs.Prices.{is_price, average_answer, average_price, initial_terms};
+ghost use Rattle.tariff.specs.Prices.{is_price, most_price, average_answer, average_price, initial_terms};
 ghost use Rattle.tariff.specs.Prices.{total_price, energy_price, hour_prices, prices_answer};
 ghost use Rattle.tariff.specs.Rounding.{nearest};
 
@@ -33,7 +33,7 @@ pub fn is_price(price: i64) -> bool
 }
 
 // n / d to the nearest whole number, halves up.
-fn nearest_whole(n: i64, d: i64) -> i64
+pub(crate) fn nearest_whole(n: i64, d: i64) -> i64
     requires size { unsigned_abs n ≤ 1000000000000000000 }
     requires above { pos 1 ≤ℤ d }
     requires below { d ≤ℤ pos 1000000 }
@@ -52,17 +52,6 @@ fn scaled(by: i64, price: i64, per: i64) -> i64
     nearest_whole(by * price, per)
 }
 
-impl Price {
-    // The average of four prices, to the nearest cent: four names as in its rule, where an array would have four indices.
-    pub fn average(first: Price, second: Price, third: Price, fourth: Price) -> Price
-        ensures { result.cents ≡ average_price first.cents second.cents third.cents fourth.cents }
-    {
-        Price {
-            cents: nearest_whole(first.cents + second.cents + third.cents + fourth.cents, 4),
-        }
-    }
-}
-
 // The average of four plain figures, or a refusal that names the first outside its limits.
 pub fn average(first: i64, second: i64, third: i64, fourth: i64) -> Result<i64, Refusal>
     ensures value { Gives (average_answer first second third fourth) (average_price first second third fourth) result }
@@ -72,7 +61,7 @@ pub fn average(first: i64, second: i64, third: i64, fourth: i64) -> Result<i64, 
     let second = Price::enter(second, 2)?;
     let third = Price::enter(third, 3)?;
     let fourth = Price::enter(fourth, 4)?;
-    Ok(Price::average(first, second, third, fourth).cents)
+    Ok(Price::average(first, second, third, fourth).cents())
 }
 
 impl Terms {
@@ -89,27 +78,26 @@ impl Terms {
 
     // By what a day-ahead price is multiplied, in millionths.
     fn multiplier(self, factor: Factor) -> i64
-        ensures { result ≡ pos (factor.parts * self.adder) }
+        ensures { result ≡ pos (factor * self.adder) }
     {
-        i64::from(factor.parts) * i64::from(self.adder)
+        i64::from(factor.parts()) * i64::from(self.adder)
     }
 
     // The total price, which is never below 0.
     fn total_price(self, day_ahead: Price, factor: Factor) -> u32
-        ensures { pos result ≡ total_price self day_ahead.cents factor.parts }
+        ensures { pos result ≡ total_price self day_ahead factor }
     {
-        let exact = scaled(self.multiplier(factor), day_ahead.cents, 1_000_000);
+        let exact = scaled(self.multiplier(factor), day_ahead.cents(), 1_000_000);
         // i64 has no From to u32, and try_from would need a case that never comes; as is proved to lose nothing.
         exact.clamp(0, i64::from(self.cap)) as u32
     }
 
     // The energy price at a total price.
-    fn energy_price(self, total: u32, real_time: Price) -> Price
-        ensures { result.cents ≡ energy_price self (pos total) real_time.cents }
+    fn energy_price(self, total: u32, real_time: Price) -> i64
+        ensures value { result ≡ energy_price self (pos total) real_time }
+        ensures size { unsigned_abs result ≤ most_price }
     {
-        Price {
-            cents: scaled(i64::from(self.share), i64::from(total), 100).min(real_time.cents),
-        }
+        scaled(i64::from(self.share), i64::from(total), 100).min(real_time.cents())
     }
 
     // The prices of an hour, or a refusal that names the first figure outside its limits.
@@ -120,7 +108,7 @@ impl Terms {
         let real_time = Price::enter(real_time, 2)?;
         let factor = Factor::new(factor).ok_or(Refusal::Figure { position: 3 })?;
         let total = self.total_price(day_ahead, factor);
-        let energy = self.energy_price(total, real_time).cents;
+        let energy = self.energy_price(total, real_time);
         Ok(HourPrices {
             total: i64::from(total),
             energy,

@@ -4,6 +4,7 @@ ghost use Rattle.tariff.specs.Answers.{told, granted};
 ghost use Rattle.book.specs.Books.{state_of};
 ghost use Rattle.book.specs.Closings.{SettledBy, close_answer};
 ghost use Rattle.book.specs.EntryStands.{EntryMade};
+ghost use Rattle.book.specs.LentPages.{heavy_entries, light_entries, heavy_change, light_change, SameLenders};
 
 use crate::book::Book;
 use crate::book::closing::posting::post;
@@ -24,11 +25,11 @@ impl Book {
         &self,
         source: &S,
         rule: &mut R,
-        statement: &Statement<'_>,
+        statement: &Statement<'_, '_, '_, '_>,
     ) -> Result<Settled, Refusal>
         ensures answer { told result ≡ close_answer (state_of self.now) (S.tables source.now) R.LIMIT
-            (length statement.now.heavy.now) (length statement.now.light.now) }
-        ensures same { told result ≢ granted → rule.new ≡ rule.old }
+            (length (heavy_entries statement.now)) (length (light_entries statement.now)) }
+        ensures same_rule { told result ≢ granted → rule.new ≡ rule.old }
         ensures settled { IfOk result (λ settled. SettledBy (S.tables source.now) R.LIMIT R.moves (state_of self.now)
             (R.meaning rule.old) settled.heavy settled.light settled.charges (R.meaning rule.new)) }
     {
@@ -46,7 +47,7 @@ impl Book {
         &mut self,
         source: &S,
         rule: &mut R,
-        statement: &mut Statement<'_>,
+        statement: &mut Statement<'_, '_, '_, '_>,
     ) -> Result<(), Refusal>
         ensures did { EntryMade (record {
           entry = Entry.Close;
@@ -57,10 +58,9 @@ impl Book {
           last = R.meaning rule.new;
           answered = told result;
         }) self.old
-            (record { old = statement.old.heavy.now; new = statement.new.heavy.now })
-            (record { old = statement.old.light.now; new = statement.new.light.now }) self.new }
-        ensures heavy { statement.new.heavy.ghost_name ≡ statement.old.heavy.ghost_name }
-        ensures light { statement.new.light.ghost_name ≡ statement.old.light.ghost_name }
+            (heavy_change statement.old statement.new) (light_change statement.old statement.new) self.new }
+        ensures lenders { SameLenders statement.old statement.new }
+        ensures same_rule { told result ≢ granted → rule.new ≡ rule.old }
     {
         let settled = self.closing(source, rule, statement)?;
         statement.fill(&settled.heavy, &settled.light);

@@ -1,15 +1,15 @@
 // Opening and dropping a day, and starting a year.
-ghost use Rattle.std.specs.Prelude.{◌≡◌, ◌+◌, max, IfOk, unsigned_abs};
+ghost use Rattle.std.specs.Prelude.{◌+◌, max, unsigned_abs};
 ghost use Rattle.tally.specs.Events.{open_day, start_year, void_day};
 ghost use Rattle.tally.specs.States.{months_of_year};
-ghost use Rattle.tariff.specs.Answers.{require, told};
+ghost use Rattle.tariff.specs.Answers.{Gives, require, told};
 ghost use Rattle.tariff.specs.Blocks.{last_day};
 ghost use Rattle.tariff.specs.Figures.{between};
 ghost use Rattle.tariff.specs.declared.refusal.Refusal.TheVariants.{Day, Month};
 ghost use Rattle.book.specs.Stepped.{Stepped};
 
 use crate::book::Book;
-use crate::records::{DayRecord, YearRecord};
+use crate::records::YearRecord;
 use tariff::blocks::DayKind;
 use tariff::refusal::Refusal;
 
@@ -21,8 +21,7 @@ pub(crate) const LAST_MONTH: u64 = 12;
 impl Book {
     // A day's number, which is above that of every day opened before.
     fn later_day(&self, day: i64) -> Result<u64, Refusal>
-        ensures answer { told result ≡ require (between (self.now.day.number + 1) last_day day) (Day 1) }
-        ensures value { IfOk result (λ number. number ≡ unsigned_abs day) }
+        ensures { Gives (require (between (self.now.day.number + 1) last_day day) (Day 1)) (unsigned_abs day) result }
     {
         match u64::try_from(day) {
             Ok(number @ 0..=LAST_DAY) if number > self.day.number => Ok(number),
@@ -32,8 +31,8 @@ impl Book {
 
     // A day's month, which never falls within a year.
     fn later_month(&self, month: i64) -> Result<u64, Refusal>
-        ensures answer { told result ≡ require (between (max 1 self.now.year.month) months_of_year month) (Month 3) }
-        ensures value { IfOk result (λ found. found ≡ unsigned_abs month) }
+        ensures { Gives (require (between (max 1 self.now.year.month) months_of_year month) (Month 3))
+            (unsigned_abs month) result }
     {
         match u64::try_from(month) {
             Ok(month @ 1..=LAST_MONTH) if month >= self.year.month => Ok(month),
@@ -48,7 +47,7 @@ impl Book {
         self.require_shut()?;
         let number = self.later_day(day)?;
         let month = self.later_month(month)?;
-        self.day = DayRecord::opened(number, kind);
+        self.day.open(number, kind);
         self.year.month = month;
         Ok(())
     }

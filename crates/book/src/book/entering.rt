@@ -1,7 +1,8 @@
 // Any of the ten calls, as an entry.
-ghost use Rattle.std.specs.Prelude.{◌≡◌};
 ghost use Rattle.tariff.specs.Answers.{told};
 ghost use Rattle.book.specs.EntryStands.{EntryStands};
+ghost use Rattle.book.specs.LentPages.{heavy_change, light_change, SameLenders};
+ghost use Rattle.book.specs.RuleMoves.{SameRule};
 
 use crate::book::Book;
 use crate::entry::Entry;
@@ -18,7 +19,7 @@ impl Book {
         entry: Entry,
         source: &S,
         rule: &mut R,
-        statement: &mut Statement<'_>,
+        statement: &mut Statement<'_, '_, '_, '_>,
     ) -> Result<(), Refusal>
         ensures enters { EntryStands (record {
           entry = entry;
@@ -29,10 +30,9 @@ impl Book {
           last = R.meaning rule.new;
           answered = told result;
         }) self.old
-            (record { old = statement.old.heavy.now; new = statement.new.heavy.now })
-            (record { old = statement.old.light.now; new = statement.new.light.now }) self.new }
-        ensures heavy { statement.new.heavy.ghost_name ≡ statement.old.heavy.ghost_name }
-        ensures light { statement.new.light.ghost_name ≡ statement.old.light.ghost_name }
+            (heavy_change statement.old statement.new) (light_change statement.old statement.new) self.new }
+        ensures lenders { SameLenders statement.old statement.new }
+        ensures same_rule { SameRule entry (told result) rule.old rule.new }
     {
         match entry {
             Entry::Open { day, kind, month } => self.open_day(day, kind, month),

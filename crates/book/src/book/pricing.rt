@@ -7,7 +7,7 @@ ghost use Rattle.book.specs.Books.{state_of};
 ghost use Rattle.book.specs.PricedDays.{prices_in};
 
 use crate::book::Book;
-use crate::places::HourPlace;
+use crate::places::HourNumber;
 use crate::priced_day::PricedDay;
 use crate::priced_day::pricing::by_block;
 use crate::records::HOURS;
@@ -31,7 +31,7 @@ impl Book {
         let mut real_time = [0; HOURS];
         let mut factors = [0; HOURS];
         for place in 0..HOURS {
-            let hour = HourPlace { place };
+            let hour = HourNumber::at(place);
             let price = by_block(heavy, light, hour.block(self.day.kind));
             let quotes = self.ask_hour(source, hour, price)?;
             real_time[place] = quotes.real_time;

@@ -5,7 +5,7 @@ ghost use Rattle.tally.specs.States.{IsParty};
 ghost use Rattle.tally.specs.Years.{day_charges};
 ghost use Rattle.book.specs.AllottedHours.{Suffice};
 ghost use Rattle.book.specs.Books.{state_of};
-ghost use Rattle.book.specs.CutTables.{HasCuts, SmallCuts};
+ghost use Rattle.book.specs.CutTables.{HasCuts, SmallCuts, rows_of};
 ghost use Rattle.book.specs.Pages.{nothing};
 ghost use Rattle.book.specs.Payments.{payment_of};
 ghost use Rattle.book.specs.PricedDays.{prices_in};
@@ -18,7 +18,7 @@ use crate::book::Book;
 use crate::book::settling::sharing::MakeWholeShares;
 use crate::cut_table::CutTable;
 use crate::payment::Payment;
-use crate::places::PartyPlace;
+use crate::places::Party;
 use crate::priced_day::PricedDay;
 use crate::records::{ByParty, PARTIES};
 use tariff::blocks::Block;
@@ -48,20 +48,20 @@ impl Book {
         &self,
         prices: &PricedDay,
         hours: &BlockHours,
-        seller: PartyPlace,
-        buyer: PartyPlace,
+        seller: Party,
+        buyer: Party,
         share: u64,
         cuts: &CutTable,
     ) -> Payment
         requires kind { prices.now.kind ≡ self.now.day.kind }
         requires hours { Suffice (state_of self.now) hours.now }
-        requires buyer { buyer.place < self.now.pool.parties }
+        requires buyer { buyer ≤ self.now.pool.parties }
         requires share { share ≤ 960000000000 }
-        requires cuts { HasCuts (state_of self.now) (prices_in prices.now) (suc seller.place) cuts.now.rows }
-        requires small { SmallCuts cuts.now.rows }
+        requires cuts { HasCuts (state_of self.now) (prices_in prices.now) seller (rows_of cuts.now) }
+        requires small { SmallCuts (rows_of cuts.now) }
         ensures { payment_of result
-            ≡ paid (state_of self.now) (prices_in prices.now) hours.now.block (suc seller.place)
-            (suc buyer.place) share }
+            ≡ paid (state_of self.now) (prices_in prices.now) hours.now.block seller
+            buyer share }
     {
         Payment {
             holdback: self.holdback(prices, hours, seller, buyer),
@@ -77,30 +77,23 @@ impl Book {
         &self,
         prices: &PricedDay,
         hours: &BlockHours,
-        seller: PartyPlace,
+        seller: Party,
         shares: &ByParty<u64>,
         cuts: &CutTable,
     ) -> ByParty<Payment>
         requires kind { prices.now.kind ≡ self.now.day.kind }
         requires hours { Suffice (state_of self.now) hours.now }
-        requires seller { seller.place < self.now.pool.parties }
+        requires seller { seller ≤ self.now.pool.parties }
         requires shares { (buyer : ℕ) → buyer < self.now.pool.parties → slice_index shares.now buyer ≤ 960000000000 }
-        requires cuts { HasCuts (state_of self.now) (prices_in prices.now) (suc seller.place) cuts.now.rows }
-        requires small { SmallCuts cuts.now.rows }
-        ensures { (buyer : ℕ) → buyer < 12 → payment_of (slice_index_or result buyer nothing)
-            ≡ paid_at (state_of self.now) (prices_in prices.now) hours.now.block seller.place buyer
+        requires cuts { HasCuts (state_of self.now) (prices_in prices.now) seller (rows_of cuts.now) }
+        requires small { SmallCuts (rows_of cuts.now) }
+        ensures { (place buyer : ℕ) → seller ≡ suc place → buyer < 12 → payment_of (slice_index_or result buyer nothing)
+            ≡ paid_at (state_of self.now) (prices_in prices.now) hours.now.block place buyer
             (slice_index shares.now buyer) }
     {
         let mut row = [Payment::NONE; PARTIES];
         for place in 0..self.parties() {
-            row[place] = self.payment(
-                prices,
-                hours,
-                seller,
-                PartyPlace { place },
-                shares[place],
-                cuts,
-            );
+            row[place] = self.payment(prices, hours, seller, Party::at(place), shares[place], cuts);
         }
         row
     }
@@ -117,7 +110,7 @@ impl Book {
             (shares_in shares.now.heavy shares.now.light Block.Light) result.light }
         ensures charges { (seller : ℕ) → IsParty (state_of self.now) seller
             → at 0 result.charges seller ≡ day_charges (state_of self.now) (prices_in prices.now) seller }
-        ensures small { (seller : ℕ) → at 0 result.charges seller ≤ 144000000000000 }
+        ensures small { (seller : ℕ) → at 0 result.charges seller ≤ 1152000000000000 }
     {
         let mut settled = Settled {
             heavy: [[Payment::NONE; PARTIES]; PARTIES],
@@ -127,7 +120,7 @@ impl Book {
         let heavy_hours = self.allotted_hours(Block::Heavy);
         let light_hours = self.allotted_hours(Block::Light);
         for place in 0..self.parties() {
-            let seller = PartyPlace { place };
+            let seller = Party::at(place);
             let cuts = self.cut_charges(prices, seller);
             settled.heavy[place] = self.payments(
                 prices,

@@ -4,7 +4,7 @@ ghost use Rattle.tariff.specs.Prices.{hour_prices, initial_terms};
 ghost use Rattle.book.specs.HourPricing.{by_block, day_prices};
 ghost use Rattle.book.specs.PricedDays.{prices_in};
 
-use crate::places::HourPlace;
+use crate::places::HourNumber;
 use crate::priced_day::PricedDay;
 use crate::records::{ByHour, HOURS};
 use tariff::blocks::{Block, DayKind};
@@ -51,7 +51,7 @@ impl PricedDay {
     {
         let mut hours = [hour_prices(0, 0, 0); HOURS];
         for place in 0..HOURS {
-            let hour = HourPlace { place };
+            let hour = HourNumber::at(place);
             hours[place] = hour_prices(
                 by_block(heavy, light, hour.block(kind)),
                 real_time[place],

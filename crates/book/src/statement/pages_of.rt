@@ -2,6 +2,7 @@
 ghost use Rattle.std.specs.Prelude.{◌≡◌, length};
 ghost use Rattle.pages.specs.Pages.{page_answer};
 ghost use Rattle.tariff.specs.Answers.{told, ◌then◌};
+ghost use Rattle.book.specs.LentPages.{heavy_entries, light_entries, SameLenders};
 ghost use Rattle.book.specs.SameStatement.{SameStatement};
 ghost use Rattle.book.specs.Pages.{statement_on};
 ghost use Rattle.book.specs.Payments.{statement_in};
@@ -9,16 +10,16 @@ ghost use Rattle.book.specs.Payments.{statement_in};
 use crate::payment::Payment;
 use crate::records::ByParty;
 use crate::statement::Statement;
-use pages::page::{check_page, fill_page};
 use tariff::refusal::Refusal;
 
-impl Statement<'_> {
+impl Statement<'_, '_, '_, '_> {
     // Tests how many entries the pages have, the heavy block's first.
     pub(crate) fn check(&self) -> Result<(), Refusal>
-        ensures { told result ≡ (page_answer (length self.now.heavy.now) then page_answer (length self.now.light.now)) }
+        ensures { told result
+            ≡ (page_answer (length (heavy_entries self.now)) then page_answer (length (light_entries self.now))) }
     {
-        check_page(self.heavy)?;
-        check_page(self.light)
+        self.heavy.check()?;
+        self.light.check()
     }
 
     // Fills both pages whole, each from a table with a row for each seller.
@@ -27,16 +28,15 @@ impl Statement<'_> {
         heavy: &ByParty<ByParty<Payment>>,
         light: &ByParty<ByParty<Payment>>,
     )
-        requires heavy { length self.old.heavy.now ≡ 144 }
-        requires light { length self.old.light.now ≡ 144 }
-        ensures pages { SameStatement (statement_on self.new.heavy.now self.new.light.now)
+        requires heavy { length (heavy_entries self.old) ≡ 144 }
+        requires light { length (light_entries self.old) ≡ 144 }
+        ensures pages { SameStatement (statement_on (heavy_entries self.new) (light_entries self.new))
             (statement_in heavy.now light.now) }
-        ensures heavy_count { length self.new.heavy.now ≡ length self.old.heavy.now }
-        ensures light_count { length self.new.light.now ≡ length self.old.light.now }
-        ensures heavy { self.new.heavy.ghost_name ≡ self.old.heavy.ghost_name }
-        ensures light { self.new.light.ghost_name ≡ self.old.light.ghost_name }
+        ensures heavy_count { length (heavy_entries self.new) ≡ length (heavy_entries self.old) }
+        ensures light_count { length (light_entries self.new) ≡ length (light_entries self.old) }
+        ensures lenders { SameLenders self.old self.new }
     {
-        let (Ok(()), Ok(())) = (fill_page(self.heavy, heavy), fill_page(self.light, light)) else {
+        let (Ok(()), Ok(())) = (self.heavy.fill(heavy), self.light.fill(light)) else {
             unreachable!()
         };
     }

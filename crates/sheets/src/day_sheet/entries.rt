@@ -1,8 +1,8 @@
 // The entries that fill a sheet.
 ghost use Rattle.std.specs.Prelude.{◌≡◌, None};
 ghost use Rattle.tariff.specs.Answers.{told, after};
+ghost use Rattle.tariff.specs.Tables.{Priced};
 ghost use Rattle.sheets.specs.DaySheets.{sheet_of};
-ghost use Rattle.sheets.specs.Kept.{cents_of, parts_of};
 ghost use Rattle.sheets.specs.Sheets.{day_answer, hours_entry_answer, opened, filled, day_entered, hours_entered};
 
 use crate::day_sheet::{DaySheet, Hour};
@@ -15,13 +15,15 @@ use tariff::refusal::Refusal;
 impl<Q: RealTime> DaySheet<Q> {
     // A sheet with a day's day-ahead prices, on which no hour has a figure.
     fn of_day(day: u64, heavy: Option<Price>, light: Option<Price>) -> DaySheet<Q>
-        ensures { sheet_of result ≡ opened day (cents_of heavy) (cents_of light) }
+        requires heavy { Priced heavy }
+        requires light { Priced light }
+        ensures { sheet_of result ≡ opened day heavy light }
     {
         DaySheet {
             day,
             heavy,
             light,
-            hours: [Hour::default(); 24],
+            hours: [Hour::missing(); 24],
             entered: PhantomData,
         }
     }
@@ -54,9 +56,11 @@ impl<Q: RealTime> DaySheet<Q> {
 
     // Writes what stands for one hour into hours of the sheet's day.
     fn fill(&mut self, hours: Hours, hour: Hour)
-        ensures { sheet_of self.new ≡ filled hours.first hours.last (cents_of hour.real_time) (parts_of hour.factor) (sheet_of self.old) }
+        ensures { sheet_of self.new ≡ filled hours.first hours.last hour.real_time hour.factor (sheet_of self.old) }
     {
-        self.hours[hours.first - 1..hours.last].fill(hour);
+        // The whole row as a slice first: a part of an array that is a field cannot be lent in a proof.
+        let row = &mut self.hours[..];
+        row[hours.first - 1..hours.last].fill(hour);
     }
 
     // Fills the hours from first to last of the sheet's day.

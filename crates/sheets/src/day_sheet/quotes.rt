@@ -5,6 +5,7 @@ ghost use Rattle.sheets.specs.SheetLimits.{sheet_limited};
 
 use crate::day_sheet::{DaySheet, Hour};
 use tariff::blocks::{Block, place_of};
+use tariff::figures::Price;
 use tariff::source::PriceSource;
 
 impl<Q> DaySheet<Q> {
@@ -14,7 +15,7 @@ impl<Q> DaySheet<Q> {
     {
         match place_of(hour) {
             Some(place) if day == self.day => self.hours[place],
-            _ => Hour::default(),
+            _ => Hour::missing(),
         }
     }
 }
@@ -32,15 +33,15 @@ impl<Q> PriceSource for DaySheet<Q> {
             Block::Heavy => self.heavy,
             Block::Light => self.light,
         };
-        price.map(|price| price.cents)
+        price.map(Price::cents)
     }
 
     fn real_time(&self, day: u64, hour: u64) -> Option<i64> {
-        self.hour(day, hour).real_time.map(|price| price.cents)
+        self.hour(day, hour).real_time.map(Price::cents)
     }
 
     fn factor(&self, day: u64, hour: u64) -> Option<u64> {
         let factor = self.hour(day, hour).factor;
-        factor.map(|factor| u64::from(factor.parts))
+        factor.map(|factor| u64::from(factor.parts()))
     }
 }

@@ -13,18 +13,15 @@ loop-place-init c =
       rows = record { long = refl; here = λ k l. absurd (omega arith) };
     }
 
-pub overflow_add-end : goal.overflow_add-end
-overflow_add-end c = let asked = c.requires.asked (suc c.loop-place.place) in omega arith
-
 pub loop-place-preserved : goal.loop-place-preserved
 loop-place-preserved c =
     let holdings = at 0 c.args.holdings.now in
     let requests = at 0 c.args.requests.now in
     let place = c.loop-place.place in
     let more = total_more requests place in
-    let asked = c.requires.asked (suc place) in
     let start = c.loop-place.invariant.start in
-    let end : c.loop-place.start + get_or c.args.requests.now place 0 ≡ total requests (suc place) = omega arith in
+    let wide : c.from.result ≡ get_or c.args.requests.now place 0 = search rules in
+    let end : c.loop-place.start + c.from.result ≡ total requests (suc place) = omega arith in
     record {
       start = rw add-one end;
       small = omega arith;

@@ -1,4 +1,4 @@
-use Rattle.std.proofs.Common.{◌≡◌, suc, ◌+◌, ◌-◌, length, get_or, min, max, refl, sym, ◌∙◌, add-one, rules, arith}
+use Rattle.std.proofs.Common.{◌≡◌, ◌+◌, ◌-◌, length, get_or, min, max, refl, sym, ◌∙◌, add-one, rules, arith}
 use Rattle.tally.proofs.Numbering.{total_none, total_more}
 use Rattle.book.specs.Records.{at}
 use Rattle.book.proofs.Filling.{filled_more}
@@ -13,15 +13,11 @@ loop-place-init c =
       filled = record { long = refl; here = λ k l. absurd (omega arith) };
     }
 
-pub overflow_add-last : goal.overflow_add-last
-overflow_add-last c = let held = c.requires (suc c.loop-place.place) in omega arith
-
 pub loop-place-preserved : goal.loop-place-preserved
 loop-place-preserved c =
     let holdings = at 0 c.args.holdings.now in
     let place = c.loop-place.place in
     let more = total_more holdings place in
-    let held = c.requires (suc place) in
     let start = c.loop-place.invariant.start in
     let here : c.saturating_sub.result
     ≡ min (c.loop-place.first + get_or c.args.holdings.now place 0) c.args.end - max c.loop-place.first c.args.start = search rules in

@@ -15,7 +15,7 @@ pub loop-call-preserved : goal.loop-call-preserved
 loop-call-preserved g c =
     let m : c.loop-call.call-index < length c.loop-call.calls = omega (arith, c.loop-call.auto.calls) in
     playing_more _ _ _ _ _ _ _ _ _ _ c.call-item.result c.make.new.self c.loop-call.invariant c.loop-call-test.true m
-    c.make.ensures.enters c.make.ensures.entry c.make.ensures.source
+    c.make.ensures.enters c.make.ensures.entry c.make.ensures.source c.make.ensures.same_rule
 
 pub returns-clause-answer : goal.returns-clause-answer
 returns-clause-answer g c = simp (to_z-of_z, c.ranges.parties, c.ranges.full_rate, c.ranges.step_rate) at c.in_ok-book.ensures.answer

@@ -6,5 +6,5 @@ use Rattle.book.proofs.sums.total.Given as goal
 abbrev pub invariant-loop-place : goal.invariant-loop-place
 invariant-loop-place l = record {
   sum : l.sum ≡ total (at 0 l.figures) l.place;
-  small : l.sum ≤ l.place * 500000000000;
+  small : l.sum ≤ l.place * 4000000000000;
 }

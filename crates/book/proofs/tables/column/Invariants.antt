@@ -4,6 +4,6 @@ use Rattle.book.proofs.tables.column.Given as goal
 
 abbrev pub invariant-loop-buyer : goal.invariant-loop-buyer
 invariant-loop-buyer l = record {
-  has : (buyer : ℕ) → buyer < l.buyer → get_or l.column buyer 0 ≡ by_seller 0 l.table (suc l.seller.place) (suc buyer);
+  has : (buyer : ℕ) → buyer < l.buyer → get_or l.column buyer 0 ≡ by_seller 0 l.table l.seller (suc buyer);
   length : length l.column ≡ 12;
 }

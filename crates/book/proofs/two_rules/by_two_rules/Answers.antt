@@ -7,8 +7,8 @@ returns-clause-calls g c =
     let second = c.enter.ensures.enters in
     record {
       between = c.enter-told.new.self;
-      heavy_between = c.enter-told.new.statement.heavy.now;
-      light_between = c.enter-told.new.statement.light.now;
+      heavy_between = c.enter-told.new.statement.heavy.now.entries.now;
+      light_between = c.enter-told.new.statement.light.now.entries.now;
       first = first;
       second = second;
       whole = λ set_up start history run. second.whole set_up start _ (run_on first.did run);

@@ -1,5 +1,5 @@
 // What a statement comes to for each account.
-ghost use Rattle.std.specs.Prelude.{◌≡◌, ◌<◌, ◌≤◌, suc, ◌+ℤ◌, unsigned_abs};
+ghost use Rattle.std.specs.Prelude.{◌≡◌, ◌<◌, ◌≤◌, unsigned_abs};
 ghost use Rattle.tally.specs.Numbered.{total_z};
 ghost use Rattle.tally.specs.SizeLaws.{SmallPayment};
 ghost use Rattle.tally.specs.Statements.{buyer_pays, net, seller_pays};
@@ -8,7 +8,7 @@ ghost use Rattle.book.specs.Posting.{SmallRow, SmallPage, SmallStatement};
 ghost use Rattle.book.specs.Posting.{buyer_gets, entries_in, party_gets, seller_gets};
 
 use crate::payment::Payment;
-use crate::places::PartyPlace;
+use crate::places::Party;
 use crate::records::ByParty;
 
 // What the buyer pays by a payment.
@@ -85,21 +85,21 @@ fn row_to_pool(row: &ByParty<Payment>, parties: usize) -> i64
 }
 
 // What a buyer gets by its entry in a row.
-fn entry_to_buyer(row: &ByParty<Payment>, buyer: PartyPlace) -> i64
-    requires { SmallPayment (entries_in row.now (suc buyer.place)) }
-    ensures value { result ≡ buyer_gets (entries_in row.now (suc buyer.place)) }
+fn entry_to_buyer(row: &ByParty<Payment>, buyer: Party) -> i64
+    requires { SmallPayment (entries_in row.now buyer) }
+    ensures value { result ≡ buyer_gets (entries_in row.now buyer) }
     ensures size { unsigned_abs result ≤ 100000000000000 }
 {
-    buyer_gets(row[buyer.place])
+    buyer_gets(row[buyer.place()])
 }
 
 // What a buyer gets by its entries in a table.
-fn table_to_buyer(table: &ByParty<ByParty<Payment>>, parties: usize, buyer: PartyPlace) -> i64
+fn table_to_buyer(table: &ByParty<ByParty<Payment>>, parties: usize, buyer: Party) -> i64
     requires few { parties ≤ 12 }
-    requires is_party { buyer.place < parties }
+    requires is_party { buyer ≤ parties }
     requires small { SmallPage parties (payments_in table.now) }
     ensures value { result
-        ≡ total_z (λ seller. buyer_gets (payments_in table.now seller (suc buyer.place))) parties }
+        ≡ total_z (λ seller. buyer_gets (payments_in table.now seller buyer)) parties }
     ensures size { unsigned_abs result ≤ 1200000000000000 }
 {
     let mut sum = 0;
@@ -125,14 +125,14 @@ fn table_to_pool(table: &ByParty<ByParty<Payment>>, parties: usize) -> i64
 }
 
 // What a party gets by a table, as a seller and as a buyer, less what it pays.
-fn table_to_party(table: &ByParty<ByParty<Payment>>, parties: usize, party: PartyPlace) -> i64
+fn table_to_party(table: &ByParty<ByParty<Payment>>, parties: usize, party: Party) -> i64
     requires few { parties ≤ 12 }
-    requires is_party { party.place < parties }
+    requires is_party { party ≤ parties }
     requires small { SmallPage parties (payments_in table.now) }
-    ensures value { result ≡ party_gets parties (payments_in table.now) (suc party.place) }
+    ensures value { result ≡ party_gets parties (payments_in table.now) party }
     ensures size { unsigned_abs result ≤ 2400000000000000 }
 {
-    row_to_seller(&table[party.place], parties) + table_to_buyer(table, parties, party)
+    row_to_seller(&table[party.place()], parties) + table_to_buyer(table, parties, party)
 }
 
 // What a statement pays to an account less what it takes from it. Account 0 is the pool's.
@@ -151,7 +151,7 @@ pub(crate) fn net(
     match account.checked_sub(1) {
         None => table_to_pool(heavy, parties) + table_to_pool(light, parties),
         Some(place) => {
-            let party = PartyPlace { place };
+            let party = Party::at(place);
             table_to_party(heavy, parties, party) + table_to_party(light, parties, party)
         }
     }

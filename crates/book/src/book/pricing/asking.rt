@@ -1,5 +1,5 @@
 // Asking a source for what a close needs, and for nothing else.
-ghost use Rattle.std.specs.Prelude.{◌≡◌, suc, pos, IfOk};
+ghost use Rattle.std.specs.Prelude.{◌≡◌, pos, IfOk};
 ghost use Rattle.tally.specs.DayPrices.{block_at, if_needed, needed_prices, needed_quotes_answer};
 ghost use Rattle.tally.specs.DayPrices.{there_if_needed};
 ghost use Rattle.tariff.specs.Answers.{Gives, require, told};
@@ -9,7 +9,7 @@ ghost use Rattle.book.specs.BlockQuotes.{block_quote};
 ghost use Rattle.book.specs.Books.{state_of};
 
 use crate::book::Book;
-use crate::places::HourPlace;
+use crate::places::HourNumber;
 use tariff::blocks::Block;
 use tariff::refusal::{Quote, Refusal};
 use tariff::source::PriceSource;
@@ -29,8 +29,8 @@ pub(crate) struct HourQuotes {
 }
 
 // What tells a figure that is missing at an hour.
-fn missing(hour: HourPlace, quote: Quote) -> Refusal
-    ensures { result ≡ MissingPrice (suc hour.place) quote }
+fn missing(hour: HourNumber, quote: Quote) -> Refusal
+    ensures { result ≡ MissingPrice hour quote }
 {
     Refusal::MissingPrice {
         hour: hour.number(),
@@ -39,9 +39,9 @@ fn missing(hour: HourPlace, quote: Quote) -> Refusal
 }
 
 // That a block's price, if it is needed, is not missing at one of its hours.
-fn require_quote(hour: HourPlace, price: BlockQuote) -> Result<(), Refusal>
+fn require_quote(hour: HourNumber, price: BlockQuote) -> Result<(), Refusal>
     ensures { told result
-        ≡ require (there_if_needed price.is_needed price.cents) (MissingPrice (suc hour.place) DayAhead) }
+        ≡ require (there_if_needed price.is_needed price.cents) (MissingPrice hour DayAhead) }
 {
     if price.is_needed && price.cents.is_none() {
         Err(missing(hour, Quote::DayAhead))
@@ -68,11 +68,11 @@ impl Book {
     fn ask_real_time<S: PriceSource>(
         &self,
         source: &S,
-        hour: HourPlace,
+        hour: HourNumber,
         is_needed: bool,
     ) -> Result<i64, Refusal>
-        ensures { let quote = (S.tables source.now).real_time self.now.day.number (suc hour.place) in
-            Gives (require (there_if_needed is_needed quote) (MissingPrice (suc hour.place) RealTime))
+        ensures { let quote = (S.tables source.now).real_time self.now.day.number hour in
+            Gives (require (there_if_needed is_needed quote) (MissingPrice hour RealTime))
             (if_needed is_needed quote (pos 0)) result }
     {
         if is_needed {
@@ -88,11 +88,11 @@ impl Book {
     fn ask_factor<S: PriceSource>(
         &self,
         source: &S,
-        hour: HourPlace,
+        hour: HourNumber,
         is_needed: bool,
     ) -> Result<u64, Refusal>
-        ensures { let quote = (S.tables source.now).factor self.now.day.number (suc hour.place) in
-            Gives (require (there_if_needed is_needed quote) (MissingPrice (suc hour.place) Factor))
+        ensures { let quote = (S.tables source.now).factor self.now.day.number hour in
+            Gives (require (there_if_needed is_needed quote) (MissingPrice hour Factor))
             (if_needed is_needed quote 0) result }
     {
         if is_needed {
@@ -108,16 +108,16 @@ impl Book {
     pub(crate) fn ask_hour<S: PriceSource>(
         &self,
         source: &S,
-        hour: HourPlace,
+        hour: HourNumber,
         price: BlockQuote,
     ) -> Result<HourQuotes, Refusal>
         requires { let state = state_of self.now in
-            price ≡ block_quote state (S.tables source.now) (block_at state (suc hour.place)) }
-        ensures answer { told result ≡ needed_quotes_answer (state_of self.now) (S.tables source.now) (suc hour.place) }
+            price ≡ block_quote state (S.tables source.now) (block_at state hour) }
+        ensures answer { told result ≡ needed_quotes_answer (state_of self.now) (S.tables source.now) hour }
         ensures real_time { let needed = needed_prices (state_of self.now) (S.tables source.now) in
-            IfOk result (λ quotes. quotes.real_time ≡ needed.real_time (suc hour.place)) }
+            IfOk result (λ quotes. quotes.real_time ≡ needed.real_time hour) }
         ensures factor { let needed = needed_prices (state_of self.now) (S.tables source.now) in
-            IfOk result (λ quotes. quotes.factor ≡ needed.factor (suc hour.place)) }
+            IfOk result (λ quotes. quotes.factor ≡ needed.factor hour) }
     {
         require_quote(hour, price)?;
         let real_time = self.ask_real_time(source, hour, price.is_needed)?;

@@ -15,8 +15,10 @@ impl Book {
             then is_party_at (state_of self.now) 2 party then is_allotted (state_of self.now) hour)
             ((hour_named (state_of self.now) hour).holdings (unsigned_abs party)) result }
     {
-        let (hour, party) = self.named(hour, party)?;
+        self.require_open()?;
+        let hour = self.hour(1, hour)?;
+        let party = self.party(2, party)?;
         self.require_allotted(hour)?;
-        Ok(self.held(hour, party))
+        Ok(u64::from(self.hour_record(hour).held(party)))
     }
 }

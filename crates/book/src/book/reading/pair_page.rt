@@ -7,6 +7,7 @@ ghost use Rattle.book.specs.Books.{pairs_at, state_of};
 ghost use Rattle.book.specs.PairPages.{HasPairs, pairs_answer};
 
 use crate::book::Book;
+use crate::records::HourRecord;
 use crate::tables::turned;
 use pages::page::Page;
 use tariff::refusal::Refusal;
@@ -24,8 +25,12 @@ impl Book {
         page.check()?;
         self.require_open()?;
         let hour = self.hour(1, hour)?;
-        self.require_allotted(hour)?;
-        page.fill(&turned(&self.hour_record(hour).pairs))
+        match self.hour_record(hour) {
+            HourRecord::Unallotted { .. } => Err(Refusal::HourNotAllotted {
+                hour: hour.number(),
+            }),
+            HourRecord::Allotted { held, .. } => page.fill(&turned(&held.pairs)),
+        }
     }
 
     // Fills a page that stands in the caller's slice.

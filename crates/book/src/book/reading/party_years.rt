@@ -17,9 +17,9 @@ impl Book {
     {
         let party = self.party(1, party)?;
         Ok(PartyYear {
-            failure_days: self.year.failure_days[party.place],
-            charges: self.year.charges[party.place],
-            ceiling: self.ceiling_of(&self.year.misses[party.place]),
+            failure_days: self.year.failure_days[party.place()],
+            charges: self.year.charges[party.place()],
+            ceiling: self.ceiling_of(&self.year.misses[party.place()]),
         })
     }
 }

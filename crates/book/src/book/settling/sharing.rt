@@ -4,6 +4,7 @@ ghost use Rattle.tariff.specs.Answers.{told, granted, in_order};
 ghost use Rattle.tariff.specs.Division.{above_zero, division_answer};
 ghost use Rattle.tally.specs.MakeWhole.{make_whole_claims, sharing_answer, sharings_answer};
 ghost use Rattle.tally.specs.Settlement.{make_whole};
+ghost use Rattle.tally.specs.States.{IsParty};
 ghost use Rattle.tally.specs.Turns.{Turned};
 ghost use Rattle.book.specs.AllottedHours.{Suffice};
 ghost use Rattle.book.specs.Books.{state_of};
@@ -12,7 +13,7 @@ ghost use Rattle.book.specs.Sharing.{Divisions, Shared, share_of};
 
 use crate::block_hours::BlockHours;
 use crate::book::Book;
-use crate::places::PartyPlace;
+use crate::places::Party;
 use crate::priced_day::PricedDay;
 use crate::records::{ByParty, PARTIES};
 use tariff::blocks::Block;
@@ -41,15 +42,15 @@ impl Book {
         prices: &PricedDay,
         most: u64,
         hours: &BlockHours,
-        seller: PartyPlace,
+        seller: Party,
     ) -> Result<u64, Refusal>
         requires kind { prices.now.kind ≡ self.now.day.kind }
         requires hours { Suffice (state_of self.now) hours.now }
-        requires party { seller.place < self.now.pool.parties }
+        requires party { IsParty (state_of self.now) seller }
         ensures answer { told result
-            ≡ sharing_answer (state_of self.now) (prices_in prices.now) most hours.now.block (suc seller.place) }
+            ≡ sharing_answer (state_of self.now) (prices_in prices.now) most hours.now.block seller }
         ensures value { IfOk result (λ amount. amount
-            ≡ make_whole (state_of self.now) (prices_in prices.now) hours.now.block (suc seller.place)) }
+            ≡ make_whole (state_of self.now) (prices_in prices.now) hours.now.block seller) }
     {
         let amount = self.make_whole(prices, hours, seller);
         if amount > 0 {
@@ -80,7 +81,7 @@ impl Book {
     {
         let mut amounts = [0; PARTIES];
         for place in 0..self.parties() {
-            amounts[place] = self.lacking_of(prices, most, hours, PartyPlace { place })?;
+            amounts[place] = self.lacking_of(prices, most, hours, Party::at(place))?;
         }
         Ok(amounts)
     }
@@ -90,18 +91,18 @@ impl Book {
         &self,
         amount: u64,
         hours: &BlockHours,
-        seller: PartyPlace,
+        seller: Party,
         rule: &mut R,
     ) -> ByParty<u64>
         requires hours { Suffice (state_of self.now) hours.now }
         requires taken { 0 < amount → division_answer R.LIMIT amount
-            (make_whole_claims (state_of self.now) hours.now.block (suc seller.place)) self.now.pool.parties ≡ granted }
+            (make_whole_claims (state_of self.now) hours.now.block seller) self.now.pool.parties ≡ granted }
         ensures turned { Turned R.moves amount
-            (make_whole_claims (state_of self.now) hours.now.block (suc seller.place))
+            (make_whole_claims (state_of self.now) hours.now.block seller)
             (R.meaning rule.old) (R.meaning rule.new) }
         ensures shares { (buyer : ℕ) → buyer < self.now.pool.parties → slice_index result buyer
             ≡ share_of amount (R.meaning rule.old)
-            (make_whole_claims (state_of self.now) hours.now.block (suc seller.place)) buyer }
+            (make_whole_claims (state_of self.now) hours.now.block seller) buyer }
     {
         let mut shares = [0; PARTIES];
         if amount > 0 {
@@ -131,7 +132,7 @@ impl Book {
     {
         let mut rows = [[0; PARTIES]; PARTIES];
         for place in 0..self.parties() {
-            rows[place] = self.share_of(amounts[place], hours, PartyPlace { place }, rule);
+            rows[place] = self.share_of(amounts[place], hours, Party::at(place), rule);
         }
         rows
     }

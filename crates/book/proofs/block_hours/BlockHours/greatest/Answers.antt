@@ -11,7 +11,7 @@ loop-index-init g c = λ f h. sym (greatest_none _)
 pub loop-index-preserved : goal.loop-index-preserved
 loop-index-preserved g c = λ f h.
     let e : c.max-greatest.result ≡ max c.loop-index.greatest c.figure.result = search rules in
-    e ∙ greatest_step _ c.loop-index.index _ _ (c.loop-index.invariant f h) (h _ _ c.figure.ensures)
+    e ∙ greatest_step _ c.loop-index.index _ _ (c.loop-index.invariant f h) (rw c.at.ensures at (h _ _ c.figure.ensures))
 
 pub returns : goal.returns
 returns g c = λ f h.

@@ -18,7 +18,8 @@ loop-index-preserved g c =
     record {
       sum = λ f h.
           let more =
-          total_z_step _ c.loop-index.index _ _ (c.loop-index.invariant.sum f h) (h _ _ c.figure-total.ensures) in
+          total_z_step _ c.loop-index.index _ _ (c.loop-index.invariant.sum f h)
+          (rw c.at.ensures at (h _ _ c.figure-total.ensures)) in
           omega (arith, ints, more);
       size = omega (arith, ints);
     }

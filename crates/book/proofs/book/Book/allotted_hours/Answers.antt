@@ -21,6 +21,7 @@ loop-place-preserved c =
     let block = c.args.block in
     let old = c.loop-place in
     let p = old.place in
+    let in_it = rw c.at-hour.ensures at c.in_block.ensures in
     let l : old.count < length old.places = omega (arith, old.invariant.long) in
     elim c.if-in_block.branch [
       | then-in_block+then-is_allotted w ↦
@@ -30,16 +31,16 @@ loop-place-preserved c =
             known = known_more old.places old.count p l c.loop-place-test.true old.invariant.known;
             comes =
                 written state block old.places old.count p old.invariant.comes l
-                (sym c.in_block.ensures ∙ w.if-in_block.true);
+                (sym in_it ∙ w.if-in_block.true);
           })
       | else-in_block w ↦
           let out : cond (in_block state block (suc p)) (hour_at state (suc p)).allotted false ≡ false =
           elim w.else-in_block.branch [
             | else-in_block-via-then-in_block+else-is_allotted w' ↦
-                ap (λ b. cond b (hour_at state (suc p)).allotted false) (sym c.in_block.ensures ∙ w'.if-in_block.true)
-                ∙ sym w'.is_allotted.ensures ∙ w'.if-is_allotted.false
+                ap (λ b. cond b (hour_at state (suc p)).allotted false) (sym in_it ∙ w'.if-in_block.true)
+                ∙ sym (rw c.at-hour.ensures at w'.is_allotted.ensures) ∙ w'.if-is_allotted.false
             | else-in_block-via-else-in_block w' ↦
-                ap (λ b. cond b (hour_at state (suc p)).allotted false) (sym c.in_block.ensures ∙ w'.if-in_block.false)
+                ap (λ b. cond b (hour_at state (suc p)).allotted false) (sym in_it ∙ w'.if-in_block.false)
           ] in
           rw (w.places-is, w.count-is) (record {
             long = old.invariant.long;

@@ -20,12 +20,13 @@ loop-place-preserved g c = record {
             let small = c.requires.small _ _ w.figure-total.ensures in
             let more =
             hour_inside (state_of c.args.self.now) c.args.block f c.loop-place.place _ _ _
-            c.in_block.ensures w.if-in_block.true (h _ _ w.figure-total.ensures) (c.loop-place.invariant.sum f h) in
+            (rw c.at-hour.ensures at c.in_block.ensures) w.if-in_block.true
+            (rw c.at-hour.ensures at (h _ _ w.figure-total.ensures)) (c.loop-place.invariant.sum f h) in
             omega (arith, ints)
         | else-in_block w ↦
             w.total-is
             ∙ hour_outside (state_of c.args.self.now) c.args.block f c.loop-place.place _ _
-            c.in_block.ensures w.if-in_block.false (c.loop-place.invariant.sum f h)
+            (rw c.at-hour.ensures at c.in_block.ensures) w.if-in_block.false (c.loop-place.invariant.sum f h)
       ];
   size =
       elim c.if-in_block.branch [

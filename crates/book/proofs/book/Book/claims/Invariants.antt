@@ -7,5 +7,5 @@ abbrev pub invariant-loop-place : goal.invariant-loop-place
 invariant-loop-place l = record {
   places : length l.claims ≡ 12;
   figures : (k : ℕ) → k < l.place
-      → get_or l.claims k 0 ≡ largest_pair (state_of l.self) l.hours.block (suc l.seller.place) (suc k);
+      → get_or l.claims k 0 ≡ largest_pair (state_of l.self) l.hours.block l.seller (suc k);
 }

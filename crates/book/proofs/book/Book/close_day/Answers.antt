@@ -13,9 +13,9 @@ pub returns-in_err-settled-clause-did : goal.returns-in_err-settled-clause-did
 returns-in_err-settled-clause-did g c =
     let t : told c.from_residual.result ≡ refused c.in_err-settled.field-0.0 = search rules in
     close_refused (g.S.PriceSource.tables c.args.source.now) g.R.DivisionRule.LIMIT g.R.DivisionRule.moves c.args.self.now _ _
-    c.args.statement.now.heavy.now c.args.statement.now.light.now _ c.in_err-settled.field-0.0
+    c.args.statement.now.heavy.now.entries.now c.args.statement.now.light.now.entries.now _ c.in_err-settled.field-0.0
     (g.met.S.PriceSource.limited c.args.source.now) (g.met.R.DivisionRule.lawful c.args.rule.now) t c.in_err-settled.ensures.answer
-    (ap g.R.DivisionRule.meaning (c.in_err-settled.ensures.same (refused≢granted c.in_err-settled.field-0.0)))
+    (ap g.R.DivisionRule.meaning (c.in_err-settled.ensures.same_rule (refused≢granted c.in_err-settled.field-0.0)))
 
 pub post-requires-clause-small : goal.post-requires-clause-small
 post-requires-clause-small g c =
@@ -23,7 +23,7 @@ post-requires-clause-small g c =
     subst (λ (n : ℕ). SmallStatement n (statement_in settled.heavy settled.light)) (sym c.parties-parties.ensures.value)
     (payments_small (g.S.PriceSource.tables c.args.source.now) g.R.DivisionRule.LIMIT g.R.DivisionRule.moves c.args.self.now _ _
     settled.heavy settled.light settled.charges c.in_ok-settled.ensures.settled (g.met.S.PriceSource.limited c.args.source.now)
-    c.args.statement.now.heavy.now c.args.statement.now.light.now c.in_ok-settled.ensures.answer)
+    c.args.statement.now.heavy.now.entries.now c.args.statement.now.light.now.entries.now c.in_ok-settled.ensures.answer)
 
 pub post-requires-clause-fits : goal.post-requires-clause-fits
 post-requires-clause-fits g c =
@@ -34,7 +34,7 @@ post-requires-clause-fits g c =
     (sym c.parties-parties.ensures.value)
     (balances_fit (g.S.PriceSource.tables c.args.source.now) g.R.DivisionRule.LIMIT g.R.DivisionRule.moves book _ _
     settled.heavy settled.light settled.charges c.in_ok-settled.ensures.settled (g.met.S.PriceSource.limited c.args.source.now)
-    c.args.statement.now.heavy.now c.args.statement.now.light.now c.in_ok-settled.ensures.answer)
+    c.args.statement.now.heavy.now.entries.now c.args.statement.now.light.now.entries.now c.in_ok-settled.ensures.answer)
 
 pub invariant_of-self : goal.invariant_of-self
 invariant_of-self g c =
@@ -51,7 +51,7 @@ invariant_of-self g c =
     record {
       led = closed_led tables g.R.DivisionRule.LIMIT g.R.DivisionRule.moves book _ _
           settled.heavy settled.light settled.charges by (g.met.S.PriceSource.limited c.args.source.now)
-          c.args.statement.now.heavy.now c.args.statement.now.light.now c.in_ok-settled.ensures.answer
+          c.args.statement.now.heavy.now.entries.now c.args.statement.now.light.now.entries.now c.in_ok-settled.ensures.answer
           c.closed_year-year.result c.post.new.balances
           (c.closed_year-year.ensures (needed_prices (state_of book) tables) by.charged) posted others;
     }
@@ -70,7 +70,7 @@ returns-clause-did g c =
     c.parties-parties.ensures.value c.post.ensures.others in
     closed_did tables g.R.DivisionRule.LIMIT g.R.DivisionRule.moves book _ _
     settled.heavy settled.light settled.charges by (g.met.S.PriceSource.limited c.args.source.now)
-    c.args.statement.now.heavy.now c.args.statement.now.light.now c.in_ok-settled.ensures.answer
+    c.args.statement.now.heavy.now.entries.now c.args.statement.now.light.now.entries.now c.in_ok-settled.ensures.answer
     c.closed_year-year.result c.post.new.balances
     (c.closed_year-year.ensures (needed_prices (state_of book) tables) by.charged) posted others _
-    c.fill.new.self.heavy.now c.fill.new.self.light.now c.fill.ensures.pages c.fill.ensures.heavy_count c.fill.ensures.light_count
+    c.fill.new.self.heavy.now.entries.now c.fill.new.self.light.now.entries.now c.fill.ensures.pages c.fill.ensures.heavy_count c.fill.ensures.light_count

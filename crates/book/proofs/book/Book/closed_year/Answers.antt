@@ -14,7 +14,7 @@ loop-place-preserved c =
     let l : c.loop-place.place < 12 = omega arith in
     counted_more c.args.self.now (at 0 c.args.charges.now) c.loop-place.place c.loop-place.year _ _ _
     c.loop-place.invariant l
-    c.failure_days.ensures (c.month_misses.ensures.whole c.requires.is_open) refl
+    (rw c.at-seller.ensures at c.failure_days.ensures) (rw c.at-seller.ensures at c.month_misses.ensures.whole c.requires.is_open) refl
 
 pub returns : goal.returns
 returns c =

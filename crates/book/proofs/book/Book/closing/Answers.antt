@@ -19,7 +19,7 @@ returns-in_err-shares-clause-answer g c =
     let tables = g.S.PriceSource.tables c.args.source.now in
     let most = g.R.DivisionRule.LIMIT in
     let t : told c.from_residual-in_err-shares.result ≡ refused c.in_err-shares.field-0.0 = search rules in
-    t ∙ last_answer state tables most (length c.args.statement.now.heavy.now) (length c.args.statement.now.light.now) _
+    t ∙ last_answer state tables most (length c.args.statement.now.heavy.now.entries.now) (length c.args.statement.now.light.now.entries.now) _
     c.in_ok-check.ensures c.in_ok-require_open.ensures c.in_ok-prices.ensures.answer
     (c.in_err-shares.ensures.answer ∙ ap (λ (p : DayPrices). sharings_answer state p most) c.in_ok-prices.ensures.value)
 
@@ -34,7 +34,7 @@ returns-clause-answer g c =
     let state = state_of c.args.self.now in
     let most = g.R.DivisionRule.LIMIT in
     last_answer state (g.S.PriceSource.tables c.args.source.now) most
-    (length c.args.statement.now.heavy.now) (length c.args.statement.now.light.now) granted
+    (length c.args.statement.now.heavy.now.entries.now) (length c.args.statement.now.light.now.entries.now) granted
     c.in_ok-check.ensures c.in_ok-require_open.ensures c.in_ok-prices.ensures.answer
     (c.in_ok-shares.ensures.answer ∙ ap (λ (p : DayPrices). sharings_answer state p most) c.in_ok-prices.ensures.value)
 
@@ -53,7 +53,7 @@ returns-clause-settled g c =
     let absent = subst (λ (p : DayPrices). (block : Block) (seller buyer : ℕ) → 0 < seller
     → (state.set_up.parties < seller) ⊎ (state.set_up.parties < buyer)
     → statement_of state p meanings block seller buyer ≡ no_payment) (sym needed)
-    (absent_of book tables most meanings (length c.args.statement.now.heavy.now) (length c.args.statement.now.light.now)
+    (absent_of book tables most meanings (length c.args.statement.now.heavy.now.entries.now) (length c.args.statement.now.light.now.entries.now)
     (limited, shared.lawful) (sym (returns-clause-answer g c))) in
     settled_by tables most g.R.DivisionRule.moves state prices _ _ given.heavy given.light c.settle.result.heavy c.settle.result.light
     c.settle.result.charges

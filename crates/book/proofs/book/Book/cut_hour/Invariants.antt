@@ -1,4 +1,4 @@
-use Rattle.std.proofs.Common.{◌≡◌, ℕ, suc, ◌<◌, ◌≤◌, length}
+use Rattle.std.proofs.Common.{◌≡◌, ℕ, ◌<◌, ◌≤◌, length}
 use Rattle.tally.specs.Charges.{cut_charge}
 use Rattle.book.specs.Books.{state_of}
 use Rattle.book.specs.PricedDays.{prices_in}
@@ -8,10 +8,10 @@ use Rattle.book.proofs.book.Book.cut_hour.Given as goal
 
 abbrev pub invariant-loop-buyer : goal.invariant-loop-buyer
 invariant-loop-buyer l = record {
-  room : l.left ≡ left_within (state_of l.self) (prices_in l.prices) (suc l.seller.place) l.hour.place l.buyer;
+  room : l.left ≡ left_within (state_of l.self) (prices_in l.prices) l.seller l.hour l.buyer;
   cuts : (k : ℕ) → 0 < k → k ≤ l.buyer
-      → at 0 l.cuts k ≡ cut_charge (state_of l.self) (prices_in l.prices) (suc l.seller.place) (suc l.hour.place) k;
+      → at 0 l.cuts k ≡ cut_charge (state_of l.self) (prices_in l.prices) l.seller l.hour k;
   others : (k : ℕ) → l.buyer < k → at 0 l.cuts k ≡ 0;
-  small : (k : ℕ) → at 0 l.cuts k ≤ 500000000000;
+  small : (k : ℕ) → at 0 l.cuts k ≤ 4000000000000;
   length : length l.cuts ≡ 12;
 }

@@ -5,6 +5,6 @@ use Rattle.book.proofs.book.Book.day_charges.Given as goal
 
 abbrev pub invariant-loop-hour : goal.invariant-loop-hour
 invariant-loop-hour l = record {
-  sum : l.all ≡ total (λ hour. total (at 0 (at [] l.cuts.rows hour)) l.self.pool.parties) l.hour;
-  small : l.all ≤ l.hour * 6000000000000;
+  sum : l.all ≡ total (λ hour. total (at 0 (at [] l.rows hour)) l.self.pool.parties) l.hour;
+  small : l.all ≤ l.hour * 48000000000000;
 }

@@ -1,45 +1,24 @@
-use Rattle.std.proofs.Common.{◌≡◌, suc, refl, rules, to_z-of_z}
-use Rattle.tariff.specs.Answers.{told, refused, ◌then◌}
-use Rattle.tally.specs.Denials.{is_figure_at, is_unallotted, is_within_shortfall}
+use Rattle.std.proofs.Common.{refl, to_z-of_z}
+use Rattle.std.proofs.lemmas.Result.{err_from_is_err_and}
 use Rattle.tally.specs.Events.{enter_request}
-use Rattle.book.specs.Books.{state_of}
-use Rattle.book.specs.HourEntries.{entered_by}
-use Rattle.book.specs.declared.hours.HourEntry.TheVariants.{Request}
-use Rattle.book.proofs.EntryCalls.{request_call, unnamed, unfit}
-use Rattle.book.proofs.HourCalls.{HourCall, hour_led, hour_stepped}
+use Rattle.book.proofs.Calls.{Granted, entry_granted, granted_led, granted_stepped, refused_stepped}
 use Rattle.book.proofs.book.Book.enter_request.Goals as goal
 
 pub returns-in_err-hour : goal.returns-in_err-hour
 returns-in_err-hour c =
-    let b = c.args.self.now in
-    let t : told c.from_residual.result ≡ refused c.in_err-hour.field-0.0 = search rules in
-    unnamed b (enter_request c.args.hour c.args.party c.args.mw) c.args.hour c.args.party _ _ tt t
-    (is_figure_at (state_of b) 3 c.args.mw then is_unallotted (state_of b) c.args.hour
-    then is_within_shortfall (state_of b) c.args.hour c.args.party c.args.mw) refl
-    (simp (to_z-of_z, c.ranges.hour, c.ranges.party) at c.in_err-hour.ensures.answer)
+    let p = err_from_is_err_and c.from_residual.result c.from_residual.ensures.1 in
+    rw (p.1, p.2)
+    (refused_stepped c.args.self.now (enter_request c.args.hour c.args.party c.args.mw) c.in_err-hour.field-0.0 tt
+    (simp (to_z-of_z, c.ranges.hour, c.ranges.party, c.ranges.mw) at c.in_err-hour.ensures.answer))
 
-pub returns-in_err-mw : goal.returns-in_err-mw
-returns-in_err-mw c =
-    let b = c.args.self.now in
-    let t : told c.from_residual-in_err-mw.result ≡ refused c.in_err-mw.field-0.0 = search rules in
-    unfit b (enter_request c.args.hour c.args.party c.args.mw) c.args.hour c.args.party _ _ tt t (is_figure_at (state_of b) 3 c.args.mw)
-    (is_unallotted (state_of b) c.args.hour then is_within_shortfall (state_of b) c.args.hour c.args.party c.args.mw) refl
-    (simp (to_z-of_z, c.ranges.hour, c.ranges.party) at c.in_ok-hour.ensures.answer)
-    (simp (to_z-of_z, c.ranges.mw) at c.in_err-mw.ensures.answer)
-
-call : (c : goal.After-enter) → HourCall c.args.self.now.pool c.args.self.now.day c.enter.new.self c.args.self.now.year
-    (suc c.in_ok-hour.hour.place)
-    (entered_by (Request c.in_ok-hour.party c.in_ok-mw.mw)) (enter_request c.args.hour c.args.party c.args.mw) (told c.enter.result)
+call : (c : goal.After-write) → Granted c.args.self.now c.write.new.self c.args.self.now.year (enter_request c.args.hour c.args.party c.args.mw)
 call c =
-    request_call c.args.self.now c.enter.new.self (told c.enter.result) c.args.hour c.args.party c.args.mw c.in_ok-hour.hour
-    c.in_ok-hour.party c.in_ok-mw.mw
-    (simp (to_z-of_z, c.ranges.hour, c.ranges.party) at c.in_ok-hour.ensures.answer)
-    (simp (to_z-of_z, c.ranges.hour) at c.in_ok-hour.ensures.hour) (simp (to_z-of_z, c.ranges.party) at c.in_ok-hour.ensures.party)
-    (simp (to_z-of_z, c.ranges.mw) at c.in_ok-mw.ensures.answer) (simp (to_z-of_z, c.ranges.mw) at c.in_ok-mw.ensures.value)
-    c.enter.ensures.answer c.enter.ensures.changed
+    entry_granted c.args.self.now c.write.new.self (enter_request c.args.hour c.args.party c.args.mw) c.args.hour _ _ _ tt
+    (simp (to_z-of_z, c.ranges.hour, c.ranges.party, c.ranges.mw) at c.in_ok-hour.ensures.answer)
+    (simp (to_z-of_z, c.ranges.hour, c.ranges.party, c.ranges.mw) at c.in_ok-hour.ensures.value) c.write.ensures refl refl
 
 pub invariant_of-self : goal.invariant_of-self
-invariant_of-self c = record { led = hour_led _ _ _ _ _ _ _ _ (call c) c.args.self.now.balances c.args.self.now.led }
+invariant_of-self c = record { led = granted_led _ _ _ _ (call c) }
 
 pub returns : goal.returns
-returns c = hour_stepped c.args.self.now c.enter.new.self _ _ _ _ (call c.before) _
+returns c = granted_stepped _ _ _ _ (call c.before) _

@@ -4,5 +4,5 @@ use Rattle.book.proofs.book.Book.hour_record.Goals as goal
 
 pub returns-clause-laid : goal.returns-clause-laid
 returns-clause-laid c =
-    let l : c.args.hour.place < length c.args.self.now.day.hours = search rules in
-    laid_of c.args.self.now c.args.hour.place _ l
+    let l : c.place.result < length c.args.self.now.day.hours = search rules in
+    laid_of c.args.self.now c.place.result _ l

@@ -17,14 +17,15 @@ loop-place-init c = total_none _
 pub loop-place-preserved : goal.loop-place-preserved
 loop-place-preserved c =
     let state = state_of c.args.self.now in
+    let in_it = rw c.at-hour.ensures at c.in_block.ensures in
     held_in_more state c.args.block c.loop-place.place c.loop-place.invariant
     (elim c.else-in_block.branch [
       | else-in_block-via-then-in_block+else-held_at-gt0 w ↦
           let none : w.held_at.result ≡ 0 = omega arith in
-          ap (λ b. cond b (held_at state (suc c.loop-place.place)) 0) (sym c.in_block.ensures ∙ w.if-in_block.true)
-          ∙ sym w.held_at.ensures.value ∙ none
+          ap (λ b. cond b (held_at state (suc c.loop-place.place)) 0) (sym in_it ∙ w.if-in_block.true)
+          ∙ sym (rw c.at-hour.ensures at w.held_at.ensures) ∙ none
       | else-in_block-via-else-in_block w ↦ ap (λ b. cond b (held_at state (suc c.loop-place.place)) 0)
-          (sym c.in_block.ensures ∙ w.if-in_block.false)
+          (sym in_it ∙ w.if-in_block.false)
     ])
 
 pub returns : goal.returns

@@ -12,7 +12,7 @@ pub returns-in_err-amounts-clause-answer : goal.returns-in_err-amounts-clause-an
 returns-in_err-amounts-clause-answer c =
     let test = sharing_answer (state_of c.args.self.now) (prices_in c.args.prices.now) c.args.most c.args.hours.now.block in
     let e : told c.from_residual.result ≡ refused c.in_err-amounts.field-0.0 = search rules in
-    e ∙ first_refused test c.loop-place.place c.in_err-amounts.field-0.0 c.loop-place.invariant.passed c.in_err-amounts.ensures.answer
+    e ∙ first_refused test c.loop-place.place c.in_err-amounts.field-0.0 c.loop-place.invariant.passed (rw c.at.ensures at c.in_err-amounts.ensures.answer)
     c.args.self.now.pool.parties (omega arith)
 
 pub loop-place-preserved : goal.loop-place-preserved
@@ -22,11 +22,11 @@ loop-place-preserved c =
     let l : c.loop-place.place < length c.loop-place.amounts = omega arith in
     record {
       places = length-set _ _ _ ∙ n;
-      passed = in_order_more test c.loop-place.place c.loop-place.invariant.passed c.in_ok-amounts.ensures.answer;
+      passed = in_order_more test c.loop-place.place c.loop-place.invariant.passed (rw c.at.ensures at c.in_ok-amounts.ensures.answer);
       amounts =
           place_next 0 c.loop-place.amounts c.loop-place.place _
           (λ k x. x ≡ make_whole (state_of c.args.self.now) (prices_in c.args.prices.now) c.args.hours.now.block (suc k)) l
-          c.in_ok-amounts.ensures.value c.loop-place.invariant.amounts;
+          (rw c.at.ensures at c.in_ok-amounts.ensures.value) c.loop-place.invariant.amounts;
     }
 
 pub loop-place-init : goal.loop-place-init

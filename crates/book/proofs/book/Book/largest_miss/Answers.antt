@@ -13,11 +13,11 @@ loop-place-preserved c =
     let old = c.loop-place in
     elim c.if-is_allotted.branch [
       | then-is_allotted w ↦
-          let most = greatest_step _ old.place _ _ old.invariant.most w.missed_at.ensures.value in
+          let most = greatest_step _ old.place _ _ old.invariant.most (rw c.at-hour.ensures at w.missed_at.ensures.value) in
           record { most = omega (arith, most, w.max-largest.ensures, w.largest-is); small = omega arith }
       | else-is_allotted w ↦
-          let isnt = sym c.is_allotted.ensures ∙ w.if-is_allotted.false in
-          let none = unmissed c.args.self.now (suc old.place) isnt (suc c.args.seller.place) in
+          let isnt = sym (rw c.at-hour.ensures at c.is_allotted.ensures) ∙ w.if-is_allotted.false in
+          let none = unmissed c.args.self.now (suc old.place) isnt c.args.seller in
           let most = greatest_step _ old.place _ _ old.invariant.most (sym none) in
           record { most = omega (arith, most, w.largest-is); small = omega arith }
     ]

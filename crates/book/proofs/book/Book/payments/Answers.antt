@@ -5,9 +5,9 @@ use Rattle.book.proofs.Settling.{paid_at_place}
 use Rattle.book.proofs.book.Book.payments.Goals as goal
 
 pub returns : goal.returns
-returns c = λ buyer l.
-    paid_at_place (state_of c.args.self.now) (prices_in c.args.prices.now) c.args.hours.now.block c.args.seller.place buyer
+returns c = λ place buyer is l.
+    paid_at_place (state_of c.args.self.now) (prices_in c.args.prices.now) c.args.hours.now.block place buyer
     (slice_index c.args.shares.now buyer) _
-    (λ s b. c.loop-place.invariant.done buyer (omega arith))
+    (λ s b. rw is at c.loop-place.invariant.done buyer (omega arith))
     (λ s. absurd (omega arith))
     (λ b. c.loop-place.invariant.rest buyer (omega arith))

@@ -12,6 +12,6 @@ abbrev pub invariant-loop-place : goal.invariant-loop-place
 invariant-loop-place l = record {
   long : length l.row ≡ 12;
   done : (buyer : ℕ) → buyer < l.place → payment_of (slice_index_or l.row buyer nothing)
-      ≡ paid (state_of l.self) (prices_in l.prices) l.hours.block (suc l.seller.place) (suc buyer) (slice_index l.shares buyer);
+      ≡ paid (state_of l.self) (prices_in l.prices) l.hours.block l.seller (suc buyer) (slice_index l.shares buyer);
   rest : (buyer : ℕ) → l.place ≤ buyer → payment_of (slice_index_or l.row buyer nothing) ≡ no_payment;
 }

@@ -14,15 +14,16 @@ pub returns-in_err-quotes-clause-answer : goal.returns-in_err-quotes-clause-answ
 returns-in_err-quotes-clause-answer g c =
     let t : told c.from_residual.result ≡ refused c.in_err-quotes.field-0.0 = search rules in
     t ∙ first_refused (needed_quotes_answer (state_of c.args.self.now) (g.S.PriceSource.tables c.args.source.now)) c.loop-place.place
-    c.in_err-quotes.field-0.0 c.loop-place.invariant.found c.in_err-quotes.ensures.answer 24 c.loop-place-test.true
+    c.in_err-quotes.field-0.0 c.loop-place.invariant.found (rw c.at-hour.ensures at c.in_err-quotes.ensures.answer) 24 c.loop-place-test.true
 
 pub loop-place-preserved : goal.loop-place-preserved
 loop-place-preserved g c =
     let fits : SFits w64 c.in_ok-quotes.quotes.real_time = search rules in
     gathered_more (state_of c.args.self.now) (g.S.PriceSource.tables c.args.source.now) c.loop-place.place
     c.loop-place.real_time c.loop-place.factors _ c.in_ok-quotes.quotes.factor c.loop-place-test.true
-    c.loop-place.invariant c.in_ok-quotes.ensures.answer (to_z-of_z w64 _ fits ∙ c.in_ok-quotes.ensures.real_time)
-    c.in_ok-quotes.ensures.factor
+    c.loop-place.invariant (rw c.at-hour.ensures at c.in_ok-quotes.ensures.answer)
+    (to_z-of_z w64 _ fits ∙ (rw c.at-hour.ensures at c.in_ok-quotes.ensures.real_time))
+    (rw c.at-hour.ensures at c.in_ok-quotes.ensures.factor)
 
 pub returns-clause-value : goal.returns-clause-value
 returns-clause-value g c =

@@ -1,4 +1,4 @@
-use Rattle.std.proofs.Common.{◌≡◌, sym, suc, pos, ◌*ℤ◌, rules, arith}
+use Rattle.std.proofs.Common.{◌≡◌, sym, pos, ◌*ℤ◌, rules, arith}
 use Rattle.std.proofs.lemmas.Int.{ints}
 use Rattle.tally.specs.Settlement.{revenue, largest_holding}
 use Rattle.tally.proofs.BlockHours.{block_zero}
@@ -11,7 +11,7 @@ pub returns-clause-value : goal.returns-clause-value
 unfolding revenue
 returns-clause-value c =
     let a = c.args in
-    let largest = largest_holding (state_of a.self.now) a.hours.now.block (suc a.seller.place) in
+    let largest = largest_holding (state_of a.self.now) a.hours.now.block a.seller in
     let e = c.block_total.ensures.value
     (λ hour. pos largest *ℤ (prices_in a.prices.now).day_ahead a.hours.now.block)
     (λ hour n post. search rules) in
@@ -22,7 +22,7 @@ unfolding revenue
 returns-then-holding-eq0-clause-value c =
     let a = c.args in
     let S = state_of a.self.now in
-    let none : largest_holding S a.hours.now.block (suc a.seller.place) ≡ 0 = omega (arith, c.largest_holding-holding.ensures.value) in
+    let none : largest_holding S a.hours.now.block a.seller ≡ 0 = omega (arith, c.largest_holding-holding.ensures) in
     sym (block_zero S a.hours.now.block
-    (λ hour. pos (largest_holding S a.hours.now.block (suc a.seller.place)) *ℤ (prices_in a.prices.now).day_ahead a.hours.now.block)
+    (λ hour. pos (largest_holding S a.hours.now.block a.seller) *ℤ (prices_in a.prices.now).day_ahead a.hours.now.block)
     (λ hour i. nothing_costs _ _ none))

@@ -1,4 +1,4 @@
-use Rattle.std.proofs.Common.{◌≡◌, ◌∙◌, ℕ, suc, ◌<◌, ◌≤◌, length, arith, refl}
+use Rattle.std.proofs.Common.{◌≡◌, ◌∙◌, ℕ, ◌<◌, ◌≤◌, length, arith, refl}
 use Rattle.std.proofs.lemmas.List.{length-set}
 use Rattle.tally.specs.Years.{day_charges}
 use Rattle.tariff.specs.declared.blocks.Block.TheVariants.{Heavy, Light}
@@ -34,17 +34,17 @@ pub loop-place-preserved : goal.loop-place-preserved
 loop-place-preserved c =
     let old = c.loop-place in
     let cuts = c.cut_charges-cuts.ensures.cuts in
-    let day = c.day_charges.ensures.value (prices_in c.args.prices.now) (suc old.place) cuts in
+    let day = rw c.at-seller.ensures at (c.day_charges.ensures.value (prices_in c.args.prices.now) c.at-seller.result cuts) in
     let l : old.place < length old.settled.charges = omega (arith, old.invariant.long) in
     record {
       heavy = rows_more _ _ _ _ old.place old.settled.heavy old.invariant.heavy _ (omega arith)
-          (rw c.allotted_hours-heavy_hours.ensures.block at c.payments.ensures);
+          (λ buyer m. rw c.allotted_hours-heavy_hours.ensures.block at c.payments.ensures old.place buyer c.at-seller.ensures m);
       light = rows_more _ _ _ _ old.place old.settled.light old.invariant.light _ (omega arith)
-          (rw c.allotted_hours-light_hours.ensures.block at c.payments-in-loop-place.ensures);
+          (λ buyer m. rw c.allotted_hours-light_hours.ensures.block at c.payments-in-loop-place.ensures old.place buyer c.at-seller.ensures m);
       charges =
           row_next 0 old.settled.charges old.place c.day_charges.result
           (λ seller x. x ≡ day_charges (state_of c.args.self.now) (prices_in c.args.prices.now) seller) l day old.invariant.charges;
-      small = row_all 0 old.settled.charges old.place c.day_charges.result (λ x. x ≤ 144000000000000) l c.day_charges.ensures.size
+      small = row_all 0 old.settled.charges old.place c.day_charges.result (λ x. x ≤ 1152000000000000) l c.day_charges.ensures.size
           old.invariant.small;
       long = length-set old.settled.charges old.place c.day_charges.result ∙ old.invariant.long;
     }

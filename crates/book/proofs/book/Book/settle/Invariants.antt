@@ -14,6 +14,6 @@ invariant-loop-place l = record {
   light : Rows (state_of l.self) (prices_in l.prices) Light (shares_in l.shares.heavy l.shares.light Light) l.place l.settled.light;
   charges : (seller : ℕ) → 0 < seller → seller ≤ l.place
       → at 0 l.settled.charges seller ≡ day_charges (state_of l.self) (prices_in l.prices) seller;
-  small : (seller : ℕ) → at 0 l.settled.charges seller ≤ 144000000000000;
+  small : (seller : ℕ) → at 0 l.settled.charges seller ≤ 1152000000000000;
   long : length l.settled.charges ≡ 12;
 }

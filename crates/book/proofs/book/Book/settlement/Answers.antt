@@ -1,4 +1,4 @@
-use Rattle.std.proofs.Common.{suc, ◌+ℤ◌, sym, arith, add-one}
+use Rattle.std.proofs.Common.{◌+ℤ◌, sym, arith, add-one}
 use Rattle.std.proofs.lemmas.Int.{ints}
 use Rattle.tally.specs.Settlement.{holdback, energy}
 use Rattle.tally.proofs.Numbering.{total_z_none, total_z_more}
@@ -14,7 +14,9 @@ loop-place-preserved c =
     let a = c.args in
     let S = state_of a.self.now in
     let P = prices_in a.prices.now in
-    let seller = suc a.seller.place in
+    let seller = a.seller in
     let more =
     total_z_more (λ buyer. holdback S P a.hours.now.block seller buyer +ℤ energy S P a.hours.now.block seller buyer) c.loop-place.place in
-    record { sum = rw add-one (omega (arith, ints)); size = omega (arith, ints) }
+    let held = rw c.at-buyer.ensures at c.holdback.ensures.value in
+    let used = rw c.at-buyer.ensures at c.energy.ensures.value in
+    record { sum = rw add-one (omega (arith, ints, held, used)); size = omega (arith, ints) }

@@ -19,5 +19,9 @@ loop-place-preserved g c =
       divided =
           divisions_more _ _ _ (λ seller. make_whole_claims (state_of c.args.self.now) c.args.hours.now.block (suc seller)) _ _
           c.loop-place.place c.loop-place.rows _ _ c.share_of.result c.loop-place.invariant.divided l
-          (g.met.R.DivisionRule.lawful c.share_of.new.rule) c.share_of.ensures.turned c.share_of.ensures.shares;
+          (g.met.R.DivisionRule.lawful c.share_of.new.rule) (rw c.at.ensures at c.share_of.ensures.turned)
+          (rw c.at.ensures at c.share_of.ensures.shares);
     }
+
+pub share_of-requires-clause-taken : goal.share_of-requires-clause-taken
+share_of-requires-clause-taken g c = rw c.at.ensures (c.requires.taken c.loop-place.place (omega arith))

@@ -1,27 +1,21 @@
-use Rattle.std.proofs.Common.{◌≡◌, refl, ap}
+use Rattle.std.proofs.Common.{refl, ap}
 use Rattle.tally.specs.Events.{start_year}
-use Rattle.tally.specs.States.{Year, fresh_year}
-use Rattle.tally.specs.Tally.{done}
+use Rattle.tally.specs.States.{Year}
 use Rattle.book.specs.Books.{state_of}
-use Rattle.book.specs.Records.{state_in, year_in}
-use Rattle.book.specs.declared.book.Book.{Book}
-use Rattle.book.specs.declared.records.YearRecord.{YearRecord}
-use Rattle.book.proofs.DayCalls.{day_led, day_stepped}
+use Rattle.book.proofs.Calls.{Granted, granted_led, granted_stepped}
 use Rattle.book.proofs.book.Book.start_year.Goals as goal
 
-started : (b : Book) (year : YearRecord) → year_in year ≡ fresh_year → state_in b.pool b.day year ≡ done (state_of b) start_year
-started b year e = ap (λ (y : Year). record (state_of b) { year = y }) e
+call : (c : goal.After-fresh-self) → Granted c.args.self.now c.args.self.now.day c.fresh-self.result start_year
+call c = record {
+  lawful = tt;
+  answers = c.in_ok-require_shut.ensures;
+  does = ap (λ (y : Year). record (state_of c.args.self.now) { year = y }) c.fresh-self.ensures;
+  unstated = refl;
+  laid = λ laid. laid;
+}
 
 pub invariant_of-self : goal.invariant_of-self
-invariant_of-self c =
-    let b = c.args.self.now in
-    record {
-      led = day_led b b.day c.fresh-self.result start_year c.in_ok-require_shut.ensures tt
-          (started b c.fresh-self.result c.fresh-self.ensures) refl (λ laid. laid);
-    }
+invariant_of-self c = record { led = granted_led _ _ _ _ (call c) }
 
 pub returns : goal.returns
-returns c =
-    let b = c.args.self.now in
-    day_stepped b b.day c.fresh-self.result start_year c.in_ok-require_shut.ensures tt (started b c.fresh-self.result c.fresh-self.ensures)
-    refl _
+returns c = granted_stepped _ _ _ _ (call c.before) _

@@ -1,4 +1,4 @@
-use Rattle.std.proofs.Common.{◌≡◌, suc, ◌*◌, ◌≤◌, pos, cond}
+use Rattle.std.proofs.Common.{◌≡◌, ◌*◌, ◌≤◌, pos, cond}
 use Rattle.tally.specs.DayPrices.{in_block}
 use Rattle.tally.specs.Numbered.{total_z}
 use Rattle.tally.specs.States.{hour_at}
@@ -10,8 +10,8 @@ use Rattle.book.proofs.book.Book.to_payee.Given as goal
 abbrev pub invariant-loop-hour : goal.invariant-loop-hour
 invariant-loop-hour l = record {
   sum : pos l.all ≡ total_z (λ hour. cond (in_block (state_of l.self) l.block hour)
-      (pos (payee_part l.cover ((hour_at (state_of l.self) hour).cover (suc l.seller.place) (suc l.buyer.place))
-      (in_row 0 l.cuts.rows hour (suc l.buyer.place))))
+      (pos (payee_part l.cover ((hour_at (state_of l.self) hour).cover l.seller l.buyer)
+      (in_row 0 l.rows hour l.buyer)))
       (pos 0)) l.hour;
-  small : l.all ≤ l.hour * 500000000000;
+  small : l.all ≤ l.hour * 4000000000000;
 }

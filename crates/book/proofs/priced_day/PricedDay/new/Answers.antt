@@ -14,5 +14,5 @@ loop-place-preserved c =
       priced = places_more _ c.loop-place.hours c.loop-place.place c.hour_prices.result l c.loop-place.invariant.priced
           (priced_here c.args.kind _ _ c.args.real_time c.args.factors c.loop-place.place c.by_block.result c.block.result
           c.hour_prices.result
-          c.block.ensures c.by_block.ensures (simp to_z-of_z at c.hour_prices.ensures));
+          (rw c.at-hour.ensures at c.block.ensures) c.by_block.ensures (simp to_z-of_z at c.hour_prices.ensures));
     }

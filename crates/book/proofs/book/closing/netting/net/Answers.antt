@@ -31,5 +31,5 @@ returns-in-Some-clause-value c =
     let statement = statement_in c.args.heavy.now c.args.light.now in
     let party : c.args.account ≡ suc c.in-Some.place = omega arith in
     added c.table_to_party.result c.table_to_party-in-Some.result (omega arith) (omega arith)
-    ∙ ap₂ ◌+ℤ◌ c.table_to_party.ensures.value c.table_to_party-in-Some.ensures.value
+    ∙ ap₂ ◌+ℤ◌ (rw c.at-party.ensures at c.table_to_party.ensures.value) (rw c.at-party.ensures at c.table_to_party-in-Some.ensures.value)
     ∙ sym (party_net c.args.parties statement c.in-Some.place) ∙ ap (net c.args.parties statement) (sym party)

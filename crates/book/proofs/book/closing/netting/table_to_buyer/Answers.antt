@@ -1,4 +1,4 @@
-use Rattle.std.proofs.Common.{suc, ◌≤◌, List, length, ap, ◌∙◌, arith}
+use Rattle.std.proofs.Common.{◌≤◌, List, length, ap, ◌∙◌, arith}
 use Rattle.book.specs.Posting.{buyer_gets, entries_in}
 use Rattle.book.specs.declared.payment.Payment.{Payment}
 use Rattle.book.proofs.Entries.{taken_below, taken_row, taken_entries}
@@ -12,7 +12,7 @@ pub entry_to_buyer-sum-requires : goal.entry_to_buyer-sum-requires
 entry_to_buyer-sum-requires c =
     let few : c.args.parties ≤ length c.args.table.now = omega arith in
     taken_entries c.args.table.now c.args.parties c.loop-row.row-index few c.loop-row-test.true c.requires.small
-    (suc c.args.buyer.place) (omega arith) c.requires.is_party
+    c.args.buyer (omega arith) c.requires.is_party
 
 pub loop-row-preserved : goal.loop-row-preserved
 loop-row-preserved c =
@@ -21,6 +21,6 @@ loop-row-preserved c =
     (let below = taken_below c.args.table.now c.args.parties c.loop-row.row-index few c.loop-row-test.true in omega arith)
     (omega arith) c.loop-row.invariant
     (c.entry_to_buyer-sum.ensures.value
-    ∙ ap (λ (row : List Payment). buyer_gets (entries_in row (suc c.args.buyer.place)))
+    ∙ ap (λ (row : List Payment). buyer_gets (entries_in row c.args.buyer))
     (taken_row c.args.table.now c.args.parties c.loop-row.row-index few c.loop-row-test.true))
     c.entry_to_buyer-sum.ensures.size

@@ -1,8 +1,0 @@
-use Rattle.std.proofs.Common.{suc, arith}
-use Rattle.book.proofs.HourFigures.{miss_within}
-use Rattle.book.proofs.book.Book.delivered.Goals as goal
-
-pub overflow_sub-result : goal.overflow_sub-result
-overflow_sub-result c =
-    let a = c.args in
-    omega (arith, miss_within a.self.now (suc a.hour.place) (suc a.seller.place) (suc a.buyer.place))

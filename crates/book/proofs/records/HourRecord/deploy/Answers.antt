@@ -1,6 +1,0 @@
-use Rattle.tally.specs.Pairs.{pair}
-use Rattle.book.proofs.records.HourRecord.deploy.Goals as goal
-
-pub returns-clause-laid : goal.returns-clause-laid
-unfolding pair
-returns-clause-laid c = λ laid. laid

@@ -1,0 +1,16 @@
+use Rattle.std.proofs.Common.{◌≡◌, length, refl, rules, arith}
+use Rattle.std.proofs.lemmas.List.{get_or_past}
+use Rattle.book.specs.Records.{at}
+use Rattle.book.proofs.Filling.{filled_more, filled_all}
+use Rattle.book.proofs.widths.widened.Goals as goal
+
+pub loop-place-preserved : goal.loop-place-preserved
+loop-place-preserved c =
+    filled_more 0 c.loop-place.wide (at 0 c.args.figures.now) c.loop-place.place _ c.loop-place-test.true c.loop-place.invariant
+    (search rules)
+
+pub returns : goal.returns
+returns c =
+    let long : length c.args.figures.now ≡ 12 = search rules in
+    filled_all 0 c.loop-place.wide (at 0 c.args.figures.now) c.loop-place.place c.loop-place-test.false c.loop-place.invariant refl
+    (λ k l. get_or_past c.args.figures.now k 0 (omega arith))
