@@ -12,12 +12,10 @@ use Rattle.tally.specs.DayPrices.{DayPrices, needed_prices}
 use Rattle.tally.specs.Denials.{answer}
 use Rattle.tally.specs.Events.{close_day, Lawfully}
 use Rattle.tally.specs.Laws.{AtEachClose}
-use Rattle.tally.specs.RuleLaws.{HandsOver}
 use Rattle.tally.specs.States.{State, IsParty}
 use Rattle.tally.specs.SizeLaws.{SmallPayment}
 use Rattle.tally.specs.Statements.{Statement, statement_of}
 use Rattle.tally.proofs.Absent.{only_parties_pay_lem}
-use Rattle.tally.proofs.Divisible.{handed_within_limits_lem}
 use Rattle.tally.proofs.PaymentSizes.{payments_fit_lem}
 use Rattle.tally.proofs.SetUps.{few_parties}
 use Rattle.tally.proofs.Sound.{Sound, sound}
@@ -45,15 +43,6 @@ laid_prop book = hlevel props
 -- its pairs are laid
 pub laid_of : (book : Book) → All Laid book.day.hours
 laid_of book = ∥∥₁_elim book.led (laid_prop book) (λ led. led.laid)
-
-hands_over_prop : (state : State) → IsProp (HandsOver state)
-hands_over_prop state = hlevel props
-
--- what its calls hand to a rule is within the limits of a division
-pub hands_over_of : (book : Book) → HandsOver (state_of book)
-hands_over_of book =
-    ∥∥₁_elim book.led (hands_over_prop (state_of book))
-    (λ led. subst HandsOver (sym led.state) (handed_within_limits_lem (set_up_in book.pool) led.events led.proper led.lawful))
 
 -- what a granted close of it states: nothing of a number that is no party's, and small payments
 module _ (book : Book) (tables : Tables) (most : ℕ) (meanings : ℕ → Division) (heavy_page light_page : ℕ)

@@ -48,14 +48,6 @@ by_seller_put {A} none rows b s row x l m = fun_ext (λ i. fun_ext (λ j.
         spread true = refl
         spread false = refl
 
--- nothing changes where what stands is written again
-pub replaced_same : {A : Type 0} (f : ℕ → A) (k : ℕ) → replaced f k (f k) ≡ f
-replaced_same f k = fun_ext (λ i. by i (eqb i k) refl)
-  where
-    by : (i : ℕ) (b : Bool) → eqb i k ≡ b → cond b (f k) (f i) ≡ f i
-    by i true e = ap f (sym (eqb-true i k e))
-    by i false e = refl
-
 -- a record of a day by its number
 pub hour_read : (records : List HourRecord) (p : ℕ) (none : HourRecord) → p < length records
     → hour_of (get_or records p none) ≡ hours_of records (suc p)

@@ -19,23 +19,10 @@ pub then_assoc : (a b rest : Answer) → ((a then b) then rest) ≡ (a then b th
 then_assoc granted b rest = refl
 then_assoc (denied n f s) b rest = refl
 
--- three tests as one
-three_then : (a b c rest : Answer) → ((a then b then c) then rest) ≡ (a then b then c then rest)
-three_then a b c rest = then_assoc a (b then c) rest ∙ ap (λ x. a then x) (then_assoc b c rest)
-
-pub granted_three : (a b c rest : Answer) → granted ≡ (a then b then c) → rest ≡ (a then b then c then rest)
-granted_three a b c rest e = granted_then (a then b then c) rest e ∙ three_then a b c rest
-
-pub denied_three : (e : Refusal) (a b c rest : Answer) → refused e ≡ (a then b then c) → refused e ≡ (a then b then c then rest)
-denied_three e a b c rest h = denied_then e (a then b then c) rest h ∙ three_then a b c rest
-
 -- tests in order, one more of which is passed
 pub in_order_more : (test : ℕ → Answer) (n : ℕ) → in_order test n ≡ granted → granted ≡ test (suc n) → in_order test (n + 1) ≡ granted
 unfolding in_order
 in_order_more test n e f = ap (in_order test) (add-one n) ∙ ap (λ a. a then test (suc n)) e ∙ sym f
-
-pub all_granted : (test : ℕ → Answer) (n m : ℕ) → in_order test n ≡ granted → n ≡ m → granted ≡ in_order test m
-all_granted test n m e l = sym (sym (ap (in_order test) l) ∙ e)
 
 -- the first test that fails tells
 pub first_refused : (test : ℕ → Answer) (n : ℕ) (e : Refusal) → in_order test n ≡ granted → refused e ≡ test (suc n)

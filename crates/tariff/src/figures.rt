@@ -1,5 +1,5 @@
 // Figures that are kept only within their limits: a clause sees each as the figure that it is.
-ghost use Rattle.std.specs.Prelude.{◌≡◌, ◌≤◌, ℕ, ◌*◌, ℤ, ◌+ℤ◌, pos, Bool, IfOk, IfSome, is_some, unsigned_abs};
+ghost use Rattle.std.specs.Prelude.{◌≡◌, ◌≤◌, ℕ, ◌*◌, ℤ, ◌+ℤ◌, pos, Bool, true, IfOk, IfSome, is_some, unsigned_abs};
 ghost use Rattle.std.specs.Option.{option_map};
 ghost use Rattle.tariff.specs.Answers.{told, require};
 ghost use Rattle.tariff.specs.Figures.{between, or_missing};
@@ -27,6 +27,11 @@ pub trait Figure: Sized {
     fn kept(figure: i64) -> Option<Self>
         ensures variant { is_some result ≡ is_within figure }
         ensures value { IfSome result (λ kept. entered kept ≡ figure) };
+
+    // As a plain figure, which is always within the limits.
+    fn figure(self) -> i64
+        ensures value { result ≡ entered self }
+        ensures within { is_within result ≡ true };
 
     // The figure at a position of its entry, or the refusal that names the position.
     fn enter(figure: i64, position: u64) -> Result<Self, Refusal>
@@ -132,6 +137,10 @@ impl Figure for Price {
             _ => None,
         }
     }
+
+    fn figure(self) -> i64 {
+        self.cents()
+    }
 }
 
 impl Figure for Factor {
@@ -141,6 +150,10 @@ impl Figure for Factor {
 
     fn kept(figure: i64) -> Option<Factor> {
         u64::try_from(figure).ok().and_then(Factor::new)
+    }
+
+    fn figure(self) -> i64 {
+        i64::from(self.parts())
     }
 }
 

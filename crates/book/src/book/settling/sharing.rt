@@ -148,7 +148,7 @@ impl Book {
         ensures answer { told result ≡ sharings_answer (state_of self.now) (prices_in prices.now) R.LIMIT }
         ensures shared { IfOk result (λ shares. Shared R.LIMIT R.moves (state_of self.now) (prices_in prices.now)
             (R.meaning rule.old) shares.heavy shares.light (R.meaning rule.new)) }
-        ensures same { told result ≢ granted → rule.new ≡ rule.old }
+        ensures same_rule { told result ≢ granted → rule.new ≡ rule.old }
     {
         let most = R::most_claims();
         let heavy_hours = self.allotted_hours(Block::Heavy);
