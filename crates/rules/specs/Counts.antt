@@ -19,6 +19,13 @@ sum_more f n =
     ∙ sum_by-map-range_with_len_more (λ x. x) f 0 n n (omega arith)
     ∙ ap (λ s. s + f n) (sum-map f (range_with_len 0 n))
 
+-- what is no more at each place comes to no more
+pub sum_le : (f g : ℕ → ℕ) (n : ℕ) → ((i : ℕ) → i < n → f i ≤ g i)
+    → sum_by f (range_with_len 0 n) ≤ sum_by g (range_with_len 0 n)
+sum_le f g =
+    by_count (λ n. ((i : ℕ) → i < n → f i ≤ g i) → sum_by f (range_with_len 0 n) ≤ sum_by g (range_with_len 0 n)) (λ _. omega arith)
+    (λ n before h. omega (arith, before (λ i l. h i (omega arith)), h n (omega arith), sum_more f n, sum_more g n))
+
 -- fewer places come to no more
 pub sum_front : (f : ℕ → ℕ) (k n : ℕ) → k ≤ n → sum_by f (range_with_len 0 k) ≤ sum_by f (range_with_len 0 n)
 sum_front f k n h =
@@ -51,11 +58,7 @@ count_more p n = sum_more (λ i. one_if (p i)) n
 
 pub count_le : (p q : ℕ → Bool) (n : ℕ) → ((i : ℕ) → i < n → p i ≡ true → q i ≡ true)
     → count_by p (range_with_len 0 n) ≤ count_by q (range_with_len 0 n)
-count_le p q =
-    by_count (λ n. ((i : ℕ) → i < n → p i ≡ true → q i ≡ true) → count_by p (range_with_len 0 n) ≤ count_by q (range_with_len 0 n))
-    (λ _. omega arith)
-    (λ n before h.
-    omega (arith, before (λ i l. h i (omega arith)), one_if_le (p n) (q n) (h n (omega arith)), count_more p n, count_more q n))
+count_le p q n h = sum_le (λ i. one_if (p i)) (λ i. one_if (q i)) n (λ i l. one_if_le (p i) (q i) (h i l))
 
 pub count_same : (p q : ℕ → Bool) (n : ℕ) → ((i : ℕ) → i < n → p i ≡ q i)
     → count_by p (range_with_len 0 n) ≡ count_by q (range_with_len 0 n)

@@ -74,7 +74,7 @@ module _ (T : ℕ) (ws : List ℕ) where
       (claimed_or_none T ws ok)
 
   -- a unit goes to a remainder above 0 alone
-  served_above : Claimed T ws → (i : ℕ) → rank_of (remainder T ws) (length ws) i < units_left T ws → 0 < remainder T ws i
+  pub served_above : Claimed T ws → (i : ℕ) → rank_of (remainder T ws) (length ws) i < units_left T ws → 0 < remainder T ws i
   served_above ok i l =
       ⊎_elim (λ h. h)
       (λ (z : remainder T ws i ≤ 0).

@@ -61,10 +61,12 @@ fn total_of(claims: &[u64]) -> u64
 
 // How many claims are above 0.
 fn above_zero(claims: &[u64]) -> u64
+    requires { length claims.now ≤ MOST_PLACES }
     ensures { result ≡ above_zero claims.now }
 {
-    // usize has no From to u64, and try_from would need a case that never comes; as is proved to lose nothing.
-    claims.iter().filter(|claim| **claim > 0).count() as u64
+    // A sum of 0s and 1s: a filter that is counted branches at each claim, and where some claims are 0 and others are not,
+    // a division then takes up to half as long again.
+    claims.iter().map(|claim| u64::from(*claim > 0)).sum()
 }
 
 // Tests whether a rule that takes `most` claims above 0 divides `total` among `claims` into so many places.

@@ -22,26 +22,22 @@ impl fmt::Display for LargestRemainder {
     }
 }
 
-// Whether fewer places come before place i than there are units: places whose remainder is larger, or equal where they stand
-// earlier.
+// How many places come before place i: their remainder is larger, or equal and they stand earlier.
 #[tactic(auto, using(crate::specs::Counts::count_more))]
-fn gets_unit(remainders: &[u64], i: usize, units: u64) -> bool
-    requires place { i < length remainders.now }
-    requires some { 0 < units }
-    ensures { result ≡ nat_lt (rank_of (λ k. slice_index remainders.now k) (length remainders.now) i) units }
+fn rank(remainders: &[u64], i: usize) -> u64
+    requires { i < length remainders.now }
+    ensures { result ≡ rank_of (λ k. slice_index remainders.now k) (length remainders.now) i }
 {
     let own = (Reverse(remainders[i]), i);
-    let mut before = 0;
-    // A loop, since it ends where the units are gone: a count by a chain goes on to the last place.
+    let mut count = 0;
+    // Over all places, and added up in a loop: to stop where the units are gone, or to filter and count by a chain, branches
+    // at each place, and a division then takes two or three times as long.
     for (j, &other) in remainders.iter().enumerate() {
         if (Reverse(other), j) < own {
-            before += 1;
-            if before == units {
-                return false;
-            }
+            count += 1;
         }
     }
-    true
+    count
 }
 
 // Writes the whole parts of a division and their remainders, and returns the units that the whole parts leave.
@@ -65,9 +61,12 @@ fn whole_parts(division: &Admitted, shares: &mut [u64], remainders: &mut [u64]) 
     left
 }
 
-// Gives a unit to each place that fewer places come before than there are units.
+// Gives a unit to each place that fewer places come before than there are units: places with a remainder above 0 alone.
 fn give_units(units: u64, remainders: &[u64], shares: &mut [u64])
     requires places { length shares.old ≡ length remainders.now }
+    requires above { (k : ℕ) → k < length remainders.now
+        → rank_of (λ j. slice_index remainders.now j) (length remainders.now) k < units
+        → 0 < slice_index remainders.now k }
     requires room { (k : ℕ) → k < length shares.old → slice_index shares.old k + 1 < 2 ^ 64 }
     ensures { (k : ℕ) → k < length remainders.now → slice_index shares.new k ≡ slice_index shares.old k
         + (if nat_lt (rank_of (λ j. slice_index remainders.now j) (length remainders.now) k) units then 1 else 0) }
@@ -77,7 +76,8 @@ fn give_units(units: u64, remainders: &[u64], shares: &mut [u64])
         return;
     }
     for (i, share) in shares.iter_mut().enumerate() {
-        if gets_unit(remainders, i, units) {
+        // A place with no remainder gets none, so it is not compared either.
+        if remainders[i] > 0 && rank(remainders, i) < units {
             *share += 1;
         }
     }

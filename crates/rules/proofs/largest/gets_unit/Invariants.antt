@@ -1,6 +1,0 @@
-use Rattle.std.proofs.Common.{◌≡◌, ◌<◌, get_or}
-use Rattle.rules.specs.LargestRemainder.{rank_of}
-use Rattle.rules.proofs.largest.gets_unit.Given as goal
-
-abbrev pub invariant-loop-j : goal.invariant-loop-j
-invariant-loop-j l = (l.before ≡ rank_of (λ k. get_or l.remainders k 0) l.j l.i) × (l.before < l.units)
